@@ -1,0 +1,137 @@
+-- 01, "Numbers to try": the cases A to J and the whole case of "The program", as one table over the definitions, proved by one
+-- statement. The numbers expected are the paper's; where it gives a part only, the rest follows from its rules by hand.
+-- Assumes nothing.
+use Prim.Native.Nat.{ℕ, _+_, _-_}
+use mathlib.Core.Path.{_≡_, refl}
+use mathlib.Core.Bool.{true}
+use mathlib.Core.List.{List, [], _∷_, _++_, map}
+use lib.ListN.{take}
+use Rattle.rules.specs.declared.Request.{Request}
+use Rattle.rules.specs.declared.Request.the-variants.{Create, Reserve, Activate, Free, Recover}
+use Rattle.rules.specs.Lists.{seek, those, any, all}
+use Rattle.rules.specs.Words.{Mem, Store, store, wordValues, le, puts, wordAt, put, mem, upd, after, zeros, allZero}
+use Rattle.rules.specs.Pages.{headerAt, signatureLow, signatureHigh, signatureHighAt, totalAt, clumpsAt, staticAt, rightLength, isPool}
+use Rattle.rules.specs.Clumps.{stateAt, headsFrom, walk}
+use Rattle.rules.specs.Sound.{sizeBad, stateBad, inPlace, gapped, listBad, faultOf, clumpFault, secondFault, isValid, allValid, targetFault, judge, touching, unsettled}
+use Rattle.rules.specs.Answers.{storesOf, answerOf, ifSound, ifSettled, bytesOf}
+use Rattle.rules.specs.Stores.{createStores, needOf, reserveStores, finishActivating, finishFreeing, activateStores, dropStores, freeStores, releasing, runs, joining, recoverStores}
+use Rattle.rules.specs.Requests.{reserve, enlist, withdraw, activate, free, verdict}
+
+-- a pool: its length and its memory
+abbrev pub Pool : Type 0
+Pool = ℕ × Mem
+
+-- clumps from a on, each given by nbytes and state
+abbrev pub headers : ℕ → List (ℕ × ℕ) → List Store
+headers a [] = []
+headers a (c ∷ cs) = store a (c .0) ∷ store (stateAt a) (c .1) ∷ headers (a + c .0) cs
+
+abbrev pub endFrom : ℕ → List (ℕ × ℕ) → ℕ
+endFrom a [] = a
+endFrom a (c ∷ cs) = endFrom (a + c .0) cs
+
+-- the pool of these clumps, with further words stored; every other word is 0
+abbrev pub poolOf : List (ℕ × ℕ) → List Store → Pool
+poolOf cs more =
+    let n = endFrom clumpsAt cs in (
+      n,
+      after (λ o. 0)
+          (store headerAt signatureLow
+          ∷ store signatureHighAt signatureHigh
+          ∷ store totalAt n
+          ∷ (headers clumpsAt cs ++ more)),
+    )
+
+-- nbytes and state of each clump
+abbrev pub shape : Pool → List (ℕ × ℕ)
+shape p = map (λ h. (h .nbytes, h .state)) (walk (p .0) (p .1))
+
+-- the pool after a request under a fuse
+abbrev pub under : ℕ → Pool → Request → Pool
+under fuse p q = (p .0, after (p .1) (take fuse (storesOf (verdict (p .0) (p .1) q))))
+
+-- "otherwise the fuse is the largest 64-bit number"
+abbrev pub longest : ℕ
+longest = wordValues - 1
+
+-- answer, place and count of a request under a fuse, and the clumps after it
+abbrev pub Row : Type 0
+Row = ℕ × ℕ × ℕ × List (ℕ × ℕ)
+
+abbrev pub row : ℕ → Pool → Request → Row
+row fuse p q = let r = answerOf fuse (verdict (p .0) (p .1) q) in (r .answer, r .place, r .stores, shape (under fuse p q))
+
+-- H: RESERVED 256 with the list (4096, 7), (4096, 9); 4096 holds 1
+abbrev pub caseH : Pool
+caseH = poolOf ((256, 1) ∷ []) (store 16400 4096 ∷ store 16408 7 ∷ store 16416 4096 ∷ store 16424 9 ∷ store staticAt 1 ∷ [])
+
+-- H cut after k stores: the answer, the word at 4096, then what recovery answers and leaves, and the word at 4096
+abbrev pub cutH : ℕ → ℕ × ℕ × Row × ℕ
+cutH k =
+    let x = under k caseH (Activate 16448) in (
+      answerOf k (verdict (caseH .0) (caseH .1) (Activate 16448)) .answer,
+      x .1 staticAt,
+      row longest x Recover,
+      under longest x Recover .1 staticAt,
+    )
+
+-- J: RESERVED 128 that lists (16576, 5), and ACTIVE 128, which is freed
+abbrev pub caseJ : Pool
+caseJ = poolOf ((128, 1) ∷ (128, 3) ∷ []) (store 16400 16576 ∷ store 16408 5 ∷ [])
+
+-- create over words that are not 0, cut after k stores: what stands in place of the first signature word
+abbrev pub createCut : ℕ → ℕ
+createCut k = under k (32768, λ o. o) Create .1 headerAt
+
+-- what a finished create leaves, for the program's whole case
+abbrev pub fresh : Pool
+fresh = poolOf ((16384, 0) ∷ []) []
+
+-- a row is computed by opening every rule that it may meet
+unfoldable pub everyRule : Unit {0}
+unfolding seek those any all le puts wordAt put mem upd after zeros allZero signatureLow signatureHigh rightLength isPool headsFrom walk sizeBad stateBad inPlace gapped listBad faultOf clumpFault secondFault isValid allValid targetFault judge touching unsettled answerOf ifSound ifSettled bytesOf createStores needOf reserveStores finishActivating finishFreeing activateStores dropStores freeStores releasing runs joining recoverStores reserve enlist withdraw activate free verdict
+everyRule = tt
+
+abbrev pub Cases : Type 0
+Cases =
+    -- A
+    (map needOf (1 ∷ 64 ∷ 65 ∷ 1000 ∷ []) ≡ 128 ∷ 128 ∷ 192 ∷ 1088 ∷ [])
+    -- B
+    × (row longest (poolOf ((256, 3) ∷ (2048, 0) ∷ (256, 3) ∷ []) []) (Reserve 1000)
+    ≡ (0, 16704, 7, ((256, 3) ∷ (1088, 1) ∷ (960, 0) ∷ (256, 3) ∷ [])))
+    -- C to F
+    × (map (λ size. row longest (poolOf ((size, 0) ∷ []) []) (Reserve 1000)) (1216 ∷ 1152 ∷ 1088 ∷ 1024 ∷ [])
+    ≡ (0, 16448, 7, ((1088, 1) ∷ (128, 0) ∷ []))
+    ∷ (0, 16448, 4, ((1152, 1) ∷ []))
+    ∷ (0, 16448, 4, ((1088, 1) ∷ []))
+    ∷ (5, 0, 0, ((1024, 0) ∷ []))
+    ∷ [])
+    -- G
+    × (map (λ size. row longest (poolOf ((16384, 0) ∷ []) []) (Reserve size)) (16320 ∷ 16321 ∷ 18446744073709551615 ∷ [])
+    ≡ (0, 16448, 4, ((16384, 1) ∷ [])) ∷ (5, 0, 0, ((16384, 0) ∷ [])) ∷ (5, 0, 0, ((16384, 0) ∷ [])) ∷ [])
+    -- H: activate, and each of its cuts
+    × (row longest caseH (Activate 16448) ≡ (0, 16448, 6, ((256, 3) ∷ [])))
+    × (map cutH (0 ∷ 1 ∷ 2 ∷ 3 ∷ 4 ∷ 5 ∷ 6 ∷ [])
+    ≡ (11, 1, (0, 0, 1, ((256, 0) ∷ [])), 1)
+    ∷ (11, 1, (0, 0, 5, ((256, 3) ∷ [])), 9)
+    ∷ (11, 7, (0, 0, 5, ((256, 3) ∷ [])), 9)
+    ∷ (11, 9, (0, 0, 5, ((256, 3) ∷ [])), 9)
+    ∷ (11, 9, (0, 0, 3, ((256, 3) ∷ [])), 9)
+    ∷ (11, 9, (0, 0, 1, ((256, 3) ∷ [])), 9)
+    ∷ (0, 9, (0, 0, 0, ((256, 3) ∷ [])), 9)
+    ∷ [])
+    -- I
+    × (row longest (poolOf ((256, 0) ∷ (256, 3) ∷ (256, 0) ∷ []) []) (Free 16704) ≡ (0, 16704, 4, ((768, 0) ∷ [])))
+    -- J
+    × (row longest (under longest caseJ (Free 16576)) (Activate 16448) ≡ (10, 0, 0, ((128, 1) ∷ (128, 0) ∷ [])))
+    -- create, and its cuts
+    × (row longest (32768, λ o. o) Create ≡ (0, 0, 1033, ((16384, 0) ∷ [])))
+    × (map createCut (0 ∷ 1 ∷ 1032 ∷ 1033 ∷ []) ≡ 12288 ∷ 0 ∷ 0 ∷ signatureLow ∷ [])
+    × (isPool 32768 (under longest (32768, λ o. o) Create .1) ≡ true)
+    -- the program's whole case
+    × (row longest fresh (Reserve 1000) ≡ (0, 16448, 7, ((1088, 1) ∷ (15296, 0) ∷ [])))
+    × (row longest (under longest fresh (Reserve 1000)) (Activate 16448) ≡ (0, 16448, 2, ((1088, 3) ∷ (15296, 0) ∷ [])))
+
+cases : Cases
+unfolding everyRule
+cases = (refl, refl, refl, refl, refl, refl, refl, refl, refl, refl, refl, refl, refl)

@@ -1,0 +1,122 @@
+-- Clumps: the header, the on-list, and the walk from clump to clump (01, "Clump header, 64 bytes" and "A sound pool").
+-- Assumes nothing.
+use Prim.Native.Nat.{ℕ, zero, suc, _+_, _%_, _≤_}
+use mathlib.Core.Path.{_≡_}
+use mathlib.Core.Bool.{Bool, true, false, not, _||_}
+use mathlib.Core.List.{List, [], _∷_, map}
+use lib.Dec.{eqb, ltb}
+use Rattle.rules.specs.Lists.{those}
+use Rattle.rules.specs.Words.{Mem, Store, store, wordBytes}
+use Rattle.rules.specs.Pages.{clumpsAt, unit}
+
+-- "Clump header, 64 bytes"
+abbrev pub headerBytes : ℕ
+headerBytes = 64
+
+-- the least clump: "nbytes .. below 128" is a fault
+abbrev pub leastClump : ℕ
+leastClump = 128
+
+-- "the state: 0 FREE, 1 RESERVED, 2 ACTIVATING, 3 ACTIVE, 4 FREEING"
+abbrev pub FREE : ℕ
+FREE = 0
+
+abbrev pub RESERVED : ℕ
+RESERVED = 1
+
+abbrev pub ACTIVATING : ℕ
+ACTIVATING = 2
+
+abbrev pub ACTIVE : ℕ
+ACTIVE = 3
+
+abbrev pub FREEING : ℕ
+FREEING = 4
+
+-- a clump on the walk: where its header stands, its nbytes and its state
+pub record Head : Type 0 where
+  pub at : ℕ
+  pub nbytes : ℕ
+  pub state : ℕ
+
+-- "Word 0 is nbytes, header included. Word 8 is the state"
+abbrev pub stateAt : ℕ → ℕ
+stateAt a = a + 8
+
+abbrev pub head : Mem → ℕ → Head
+head m a = record { at = a; nbytes = m a; state = m (stateAt a) }
+
+-- "The body is what follows the header."
+abbrev pub bodyOf : Head → ℕ
+bodyOf h = h .at + headerBytes
+
+abbrev pub endOf : Head → ℕ
+endOf h = h .at + h .nbytes
+
+abbrev pub hasState : ℕ → Head → Bool
+hasState s h = eqb (h .state) s
+
+abbrev pub isFree : Head → Bool
+isFree = hasState FREE
+
+-- "A clump that isn't FREE is live."
+abbrev pub isLive : Head → Bool
+isLive h = not (isFree h)
+
+-- RESERVED or ACTIVE: the list waits
+abbrev pub isWaiting : Head → Bool
+isWaiting h = hasState RESERVED h || hasState ACTIVE h
+
+-- ACTIVATING or FREEING: the list is being carried out
+abbrev pub isPending : Head → Bool
+isPending h = hasState ACTIVATING h || hasState FREEING h
+
+-- "Offsets 16, 32 and 48 hold the three entries of the on-list, each a target word and then a value word"
+abbrev pub slots : ℕ → List ℕ
+slots a = (a + 16) ∷ (a + 32) ∷ (a + 48) ∷ []
+
+abbrev pub valueAt : ℕ → ℕ
+valueAt s = s + wordBytes
+
+-- "target 0 means empty"
+abbrev pub isEmpty : Mem → ℕ → Bool
+isEmpty m s = eqb (m s) 0
+
+abbrev pub isUsed : Mem → ℕ → Bool
+isUsed m s = not (isEmpty m s)
+
+-- where the used entries of the clump at a stand, first to last
+abbrev pub usedSlots : Mem → ℕ → List ℕ
+usedSlots m a = those (isUsed m) (slots a)
+
+-- the target of the entry that stands at s
+abbrev pub targetAt : Mem → ℕ → ℕ
+targetAt m s = m s
+
+-- the entry that stands at s, as the store that it asks for
+abbrev pub entry : Mem → ℕ → Store
+entry m s = store (targetAt m s) (m (valueAt s))
+
+-- the used entries of the clump at a, in list order
+abbrev pub entries : Mem → ℕ → List Store
+entries m a = map (entry m) (usedSlots m a)
+
+-- "The walk starts at 16384; each clump is followed by the one at its offset plus nbytes." It ends at n, the image's length.
+-- A clump without fault has a byte or more, so that n steps last wherever no fault stands before.
+unfoldable pub headsFrom : ℕ → ℕ → Mem → ℕ → List Head
+headsFrom zero n m a = []
+headsFrom (suc k) n m a = elim (ltb a n) [ true ↦ head m a ∷ headsFrom k n m (a + m a) | false ↦ [] ]
+
+unfoldable pub walk : ℕ → Mem → List Head
+walk n m = headsFrom n n m clumpsAt
+
+-- the clumps hs tile from a to b: each stands where the one before ends, and is a multiple of 64 and at least 128
+pub record Sits (a : ℕ) (h : Head) : Type 0 where
+  pub here : h .at ≡ a
+  pub least : leastClump ≤ h .nbytes
+  pub whole : h .nbytes % unit ≡ 0
+  pub known : h .state ≤ FREEING
+
+abbrev pub Tiles : ℕ → List Head → ℕ → Type 0
+Tiles a [] b = a ≡ b
+Tiles a (h ∷ hs) b = Sits a h × Tiles (a + h .nbytes) hs b

@@ -1,0 +1,142 @@
+-- What is promised of a request, as named statements: the first two demands, and the sentences of 01 that speak of all requests at
+-- once. PowerLoss has the third demand.
+-- Nothing is proved here: the crate that proves a statement has a value of that very type. Assumes nothing.
+use Prim.Native.Nat.{ℕ, _+_, _-_, _<_, _≤_}
+use mathlib.Core.Path.{_≡_}
+use mathlib.Core.Bool.{true, false, cond}
+use mathlib.Core.Logic.{_↔_, _⊎_}
+use mathlib.Core.Option.{Option, some, none}
+use mathlib.Core.List.{List, [], _∷_, _++_}
+use lib.ListN.{length, getD, take}
+use Rattle.rules.specs.declared.Answer.{Answer}
+use Rattle.rules.specs.declared.Request.{Request}
+use Rattle.rules.specs.declared.Request.the-variants.{Create, Reserve, Onactive, Onfree, Withdraw, Activate, Free, Check, Recover}
+use Rattle.rules.specs.Lists.{seek, any, Each}
+use Rattle.rules.specs.Words.{Image, Mem, Store, Bytes, Aligned, mem, wordBytes}
+use Rattle.rules.specs.Pages.{isPool, clumpsAt}
+use Rattle.rules.specs.Clumps.{Head, bodyOf, endOf, FREE, RESERVED, ACTIVE, hasState, isLive, isPending, entries}
+use Rattle.rules.specs.Sound.{judge, unsettled}
+use Rattle.rules.specs.Answers.{done, notSound, noRoom, cutShort}
+use Rattle.rules.specs.Stores.{needOf, fits}
+use Rattle.rules.specs.Requests.{Numbers, Does, cut, finished, finder, storesFor, answerOn, totalsOn}
+use Rattle.rules.specs.Reading.{clumpsOf, within, inPart, hidden}
+use Rattle.rules.specs.Traces.{isCreate}
+
+-- "Prove that any two outcomes it allows are equal"
+abbrev pub Determined : Type 0
+Determined = (img : Image) (q : Request) (fuse : ℕ) (x y : Image) (r s : Answer) → Does img q fuse x r → Does img q fuse y s → (x ≡ y) × (r ≡ s)
+
+-- Demand 1: "a refusal gives the answer that 01 names and changes no byte". "Answers 1 to 10 make no store." "Fault is 0 except with
+-- answer 2."
+abbrev pub Refusals : Type 0
+Refusals =
+    (img : Image) (q : Request) (fuse : ℕ)
+    → let r = answerOn img q fuse in
+    (r .answer ≤ cutShort)
+    × (done < r .answer → r .answer < cutShort → (r .stores ≡ 0) × (cut img q fuse ≡ img))
+    × ((r .answer ≡ notSound → ⊥) → r .fault ≡ 0)
+
+-- "If the list is longer, the answer is 11; a fuse equal to its length is enough." "The count is the number made"
+abbrev pub Fuses : Type 0
+Fuses =
+    (img : Image) (q : Request) (fuse : ℕ)
+    → let r = answerOn img q fuse in
+    ((r .answer ≡ cutShort) ↔ (fuse < length (storesFor img q))) × (r .stores ≡ length (take fuse (storesFor img q)))
+
+-- "Each store changes at most one aligned word."
+abbrev pub OneWord : Type 0
+OneWord = (img : Image) (q : Request) → Bytes img → Numbers q → Each (Aligned (length img)) (storesFor img q)
+
+-- an image in which requests are served: a pool, sound, nothing unfinished, no two FREE touching
+pub record Settled (img : Image) : Type 0 where
+  pub pool : isPool (length img) (mem img) ≡ true
+  pub sound : judge (length img) (mem img) ≡ none
+  pub calm : unsettled (clumpsOf img) ≡ false
+
+-- a request that is granted: its answer is 0 once the fuse lasts
+abbrev pub Accepted : Image → Request → Type 0
+Accepted img q = answerOn img q (length (storesFor img q)) .answer ≡ done
+
+-- Demand 2: "'no room' exactly if no FREE clump is large enough"
+abbrev pub NoRoom : Type 0
+NoRoom =
+    (img : Image) (size fuse : ℕ)
+    → Settled img
+    → 0 < size
+    → (answerOn img (Reserve size) fuse .answer ≡ noRoom)
+    ↔ Each (λ h. h .state ≡ FREE → h .nbytes < needOf size) (clumpsOf img)
+
+-- "first fit": the clump that is chosen is large enough and FREE, and none before it is
+abbrev pub FirstFit : Type 0
+FirstFit =
+    (need : ℕ) (hs : List Head) (h : Head)
+    → seek (fits need) hs ≡ some h
+    → (lower higher : List Head) × (hs ≡ lower ++ (h ∷ higher)) × Each (λ k. fits need k ≡ false) lower × (fits need h ≡ true)
+
+-- two clumps share no byte
+abbrev pub Apart : Head → Head → Type 0
+Apart h k = (endOf h ≤ k .at) ⊎ (endOf k ≤ h .at)
+
+-- a body that was reserved is as large as was asked, and its clump shares no byte with a clump that was live before
+abbrev pub Fresh : Type 0
+Fresh =
+    (img : Image) (size fuse : ℕ)
+    → let r = answerOn img (Reserve size) fuse in
+    Bytes img
+    → r .answer ≡ done
+    → (h : Head)
+    × (finder (clumpsOf (finished img (Reserve size))) (r .place) ≡ some h)
+    × (h .state ≡ RESERVED)
+    × (bodyOf h + size ≤ endOf h)
+    × Each (λ k. isLive k ≡ true → Apart h k) (clumpsOf img)
+
+-- the list that a request carries out, if it is granted
+abbrev pub entriesOf : Mem → Option Head → List Store
+entriesOf m none = []
+entriesOf m (some h) = entries m (h .at)
+
+abbrev pub entriesIf : ℕ → Mem → Option Head → List Store
+entriesIf s m none = []
+entriesIf s m (some h) = cond (hasState s h) (entries m (h .at)) []
+
+abbrev pub carriedOut : Mem → List Head → Request → List Store
+carriedOut m hs Create = []
+carriedOut m hs (Reserve size) = []
+carriedOut m hs (Onactive o t v) = []
+carriedOut m hs (Onfree o t v) = []
+carriedOut m hs (Withdraw o) = []
+carriedOut m hs (Activate o) = entriesIf RESERVED m (finder hs o)
+carriedOut m hs (Free o) = entriesIf ACTIVE m (finder hs o)
+carriedOut m hs Check = []
+carriedOut m hs Recover = entriesOf m (seek isPending hs)
+
+-- Demand 2: "bodies and static area change only at the words named in the list being carried out"
+abbrev pub OnlyNamed : Type 0
+OnlyNamed =
+    (img : Image) (q : Request) (fuse i : ℕ)
+    → let hs = clumpsOf img in
+    isCreate q ≡ false
+    → inPart isLive hs i ≡ true
+    → any (λ s. within (s .to) (s .to + wordBytes) i) (carriedOut (mem img) hs q) ≡ false
+    → getD (cut img q fuse) i 0 ≡ getD img i 0
+
+-- "they add up to length minus 16384"
+abbrev pub TotalsAdd : Type 0
+TotalsAdd =
+    (img : Image) (fuse : ℕ)
+    → let t = totalsOn img in
+    answerOn img Check fuse .answer ≡ done
+    → t .free + t .reserved + t .activating + t .active + t .freeing ≡ length img - clumpsAt
+
+-- two images that differ only in bodies, in the static area and in pages 0 and 8192
+pub record Alike (img x : Image) : Type 0 where
+  pub long : length x ≡ length img
+  pub same : (i : ℕ) → hidden (clumpsOf img) i ≡ false → getD x i 0 ≡ getD img i 0
+
+-- "No answer depends on a body byte, on the static area or on pages 0 and 8192. Two images that differ only there get equal
+-- answers, places and counts."
+abbrev pub Independent : Type 0
+Independent =
+    (img x : Image) (q : Request) (fuse : ℕ)
+    → Alike img x
+    → (answerOn x q fuse ≡ answerOn img q fuse) × (totalsOn x ≡ totalsOn img)

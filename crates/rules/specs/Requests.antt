@@ -1,0 +1,119 @@
+-- The verdict on each of the nine requests: its tests by rising number, then its stores (01, "What a request answers" and
+-- "Stores and the fuse"); and what a request makes of an image. Total on any length, any words and any numbers. Assumes nothing.
+use Prim.Native.Nat.{ℕ, _<_}
+use mathlib.Core.Path.{_≡_}
+use mathlib.Core.Bool.{Bool, true, cond, not}
+use mathlib.Core.Option.{Option, some, none}
+use mathlib.Core.List.{List, [], _∷_}
+use lib.Dec.{eqb}
+use lib.ListN.{length, take}
+use Rattle.rules.specs.declared.Answer.{Answer}
+use Rattle.rules.specs.declared.Totals.{Totals}
+use Rattle.rules.specs.declared.Request.{Request}
+use Rattle.rules.specs.declared.Request.the-variants.{Create, Reserve, Onactive, Onfree, Withdraw, Activate, Free, Check, Recover}
+use Rattle.rules.specs.Lists.{seek}
+use Rattle.rules.specs.Words.{Image, Mem, Store, mem, carry, wordValues}
+use Rattle.rules.specs.Pages.{rightLength}
+use Rattle.rules.specs.Clumps.{Head, bodyOf, RESERVED, ACTIVE, hasState, isWaiting, isEmpty, slots, usedSlots, walk}
+use Rattle.rules.specs.Sound.{isValid, allValid}
+use Rattle.rules.specs.Answers.{Verdict, granted, refuse, test, ifSound, ifSettled, notPool, sizeZero, noRoom, noClump, wrongState, listFull, listEmpty, badTarget, storesOf, answerOf, totalsFor}
+use Rattle.rules.specs.Stores.{createStores, needOf, fits, reserveStores, listStores, withdrawStores, activateStores, freeStores, recoverStores}
+
+-- reserve: 4 for size 0, 5 where "the scan stops" at no clump; the place is "the body's offset"
+abbrev pub placed : ℕ → Option Head → Verdict
+placed need none = refuse noRoom
+placed need (some h) = granted (bodyOf h) (reserveStores need h)
+
+unfoldable pub reserve : List Head → ℕ → Verdict
+reserve hs size = test (eqb size 0) sizeZero (placed (needOf size) (seek (fits (needOf size)) hs))
+
+-- the clump that has its body at an offset, and 6 where none has
+abbrev pub finder : List Head → ℕ → Option Head
+finder hs offset = seek (λ h. eqb (bodyOf h) offset) hs
+
+abbrev pub found : Option Head → (Head → Verdict) → Verdict
+found none go = refuse noClump
+found (some h) go = go h
+
+-- onactive and onfree on a clump: 7 unless the state is the one that is allowed, 8, 10
+abbrev pub listed : Bool → Option ℕ → ℕ → ℕ → ℕ → Verdict
+listed valid none offset target value = refuse listFull
+listed valid (some s) offset target value = test (not valid) badTarget (granted offset (listStores s target value))
+
+unfoldable pub enlist : Mem → List Head → ℕ → ℕ → ℕ → ℕ → Head → Verdict
+enlist m hs allowed offset target value h =
+    test (not (hasState allowed h)) wrongState
+    (listed (isValid hs target) (seek (isEmpty m) (slots (h .at))) offset target value)
+
+-- withdraw from a clump: 7, 9
+abbrev pub withdrawn : List ℕ → ℕ → Verdict
+withdrawn [] offset = refuse listEmpty
+withdrawn (s ∷ sl) offset = granted offset (withdrawStores s sl)
+
+unfoldable pub withdraw : Mem → ℕ → Head → Verdict
+withdraw m offset h = test (not (isWaiting h)) wrongState (withdrawn (usedSlots m (h .at)) offset)
+
+-- activate a clump: 7; "every used target must be valid now, else 10"
+unfoldable pub activate : Mem → List Head → ℕ → Head → Verdict
+activate m hs offset h =
+    test (not (hasState RESERVED h)) wrongState
+    (test (not (allValid m hs h)) badTarget (granted offset (activateStores m h)))
+
+-- free a clump: 7; of an ACTIVE one "every used target must be valid now, else 10"
+abbrev pub mayDrop : Mem → List Head → Head → Bool
+mayDrop m hs h = cond (hasState ACTIVE h) (allValid m hs h) true
+
+unfoldable pub free : Mem → List Head → ℕ → Head → Verdict
+free m hs offset h =
+    test (not (isWaiting h)) wrongState
+    (test (not (mayDrop m hs h)) badTarget (granted offset (freeStores m hs h)))
+
+-- the verdict on a request, over an image's length and memory. "Create gives 1 only for length."
+unfoldable pub verdict : ℕ → Mem → Request → Verdict
+verdict n m Create = test (not (rightLength n)) notPool (granted 0 (createStores n))
+verdict n m (Reserve size) = ifSettled n m (reserve (walk n m) size)
+verdict n m (Onactive o t v) = let hs = walk n m in ifSettled n m (found (finder hs o) (enlist m hs RESERVED o t v))
+verdict n m (Onfree o t v) = let hs = walk n m in ifSettled n m (found (finder hs o) (enlist m hs ACTIVE o t v))
+verdict n m (Withdraw o) = ifSettled n m (found (finder (walk n m) o) (withdraw m o))
+verdict n m (Activate o) = let hs = walk n m in ifSettled n m (found (finder hs o) (activate m hs o))
+verdict n m (Free o) = let hs = walk n m in ifSettled n m (found (finder hs o) (free m hs o))
+verdict n m Check = ifSound n m (granted 0 [])
+verdict n m Recover = ifSound n m (granted 0 (recoverStores m (walk n m)))
+
+-- the numbers of a request are words
+abbrev pub Numbers : Request → Type 0
+Numbers Create = Unit {0}
+Numbers (Reserve size) = size < wordValues
+Numbers (Onactive o t v) = (o < wordValues) × (t < wordValues) × (v < wordValues)
+Numbers (Onfree o t v) = (o < wordValues) × (t < wordValues) × (v < wordValues)
+Numbers (Withdraw o) = o < wordValues
+Numbers (Activate o) = o < wordValues
+Numbers (Free o) = o < wordValues
+Numbers Check = Unit {0}
+Numbers Recover = Unit {0}
+
+-- the same over an image
+abbrev pub verdictOn : Image → Request → Verdict
+verdictOn img q = verdict (length img) (mem img) q
+
+abbrev pub storesFor : Image → Request → List Store
+storesFor img q = storesOf (verdictOn img q)
+
+-- the image after a request under a fuse, and after a finished one
+abbrev pub cut : Image → Request → ℕ → Image
+cut img q fuse = carry img (take fuse (storesFor img q))
+
+abbrev pub finished : Image → Request → Image
+finished img q = carry img (storesFor img q)
+
+-- the answer of a request under a fuse, and check's totals
+abbrev pub answerOn : Image → Request → ℕ → Answer
+answerOn img q fuse = answerOf fuse (verdictOn img q)
+
+abbrev pub totalsOn : Image → Totals
+totalsOn img = totalsFor (verdictOn img Check) (walk (length img) (mem img))
+
+-- what a request does, answer and whole image: the contract of every entry point
+pub record Does (before : Image) (q : Request) (fuse : ℕ) (after : Image) (r : Answer) : Type 0 where
+  pub answered : r ≡ answerOn before q fuse
+  pub stored : after ≡ cut before q fuse

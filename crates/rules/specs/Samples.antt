@@ -1,0 +1,111 @@
+-- The rules that the cases A to J leave out, sampled: pages, faults and their order, valid targets, each answer, each exact list of
+-- stores, totals and fuses, as one table over the definitions, proved by one statement. The numbers expected follow from 01 by hand.
+-- Assumes nothing.
+use Prim.Native.Nat.{ℕ}
+use mathlib.Core.Path.{_≡_, refl}
+use mathlib.Core.Bool.{true, false}
+use mathlib.Core.List.{List, [], _∷_, _++_, map}
+use lib.ListN.{replicate}
+use Rattle.rules.specs.declared.Request.{Request}
+use Rattle.rules.specs.declared.Request.the-variants.{Reserve, Onactive, Onfree, Withdraw, Activate, Free, Check, Recover}
+use Rattle.rules.specs.Words.{store, put, mem}
+use Rattle.rules.specs.Pages.{signatureLow, signatureHigh, rightLength}
+use Rattle.rules.specs.Clumps.{walk}
+use Rattle.rules.specs.Sound.{isValid}
+use Rattle.rules.specs.Answers.{storesOf, answerOf, totalsFor}
+use Rattle.rules.specs.Requests.{verdict}
+use Rattle.rules.specs.Cases.{everyRule, Pool, poolOf, under, longest, caseH}
+
+-- answer, place and fault of check
+abbrev pub checked : Pool → ℕ × ℕ × ℕ
+checked p = let r = answerOf longest (verdict (p .0) (p .1) Check) in (r .answer, r .place, r .fault)
+
+-- the answer of a request
+abbrev pub answered : Pool → Request → ℕ
+answered p q = answerOf longest (verdict (p .0) (p .1) q) .answer
+
+-- the stores of a request
+abbrev pub listOf : Pool → Request → List (ℕ × ℕ)
+listOf p q = map (λ s. (s .to, s .word)) (storesOf (verdict (p .0) (p .1) q))
+
+-- a clump of 128 in a state, with three target words, and a FREE one of 128
+abbrev pub listing : ℕ → ℕ × ℕ × ℕ → Pool
+listing s t = poolOf ((128, s) ∷ (128, 0) ∷ []) (store 16400 (t .0) ∷ store 16416 (t .1) ∷ store 16432 (t .2) ∷ [])
+
+-- FREE, ACTIVE with the list (4096, 7), FREE
+abbrev pub between : Pool
+between = poolOf ((128, 0) ∷ (128, 3) ∷ (128, 0) ∷ []) (store 16528 4096 ∷ store 16536 7 ∷ [])
+
+-- what a power loss may leave: FREE, RESERVED, FREEING with the list (4096, 7), ACTIVE, RESERVED, FREE
+abbrev pub broken : Pool
+broken = poolOf ((128, 0) ∷ (128, 1) ∷ (128, 4) ∷ (128, 3) ∷ (128, 1) ∷ (128, 0) ∷ []) (store 16656 4096 ∷ store 16664 7 ∷ [])
+
+-- answer, place and count of case C under a fuse
+abbrev pub fused : ℕ → ℕ × ℕ × ℕ
+fused k =
+    let p = poolOf ((1216, 0) ∷ []) [] in
+    let r = answerOf k (verdict (p .0) (p .1) (Reserve 1000)) in
+    (r .answer, r .place, r .stores)
+
+abbrev pub Samples : Type 0
+Samples =
+    -- words: eight bytes, least significant first; none at an offset that isn't divisible by 8
+    (put (replicate 16 255) 8 513 ≡ replicate 8 255 ++ (1 ∷ 2 ∷ 0 ∷ 0 ∷ 0 ∷ 0 ∷ 0 ∷ 0 ∷ []))
+    × (map (mem (0 ∷ 0 ∷ 0 ∷ 0 ∷ 0 ∷ 0 ∷ 0 ∷ 128 ∷ 1 ∷ 2 ∷ [])) (0 ∷ 8 ∷ 9 ∷ []) ≡ 9223372036854775808 ∷ 513 ∷ 0 ∷ [])
+    -- pages: lengths; the signature's words; a word that is not 0 where one is judged, and where none is
+    × (map rightLength (16448 ∷ 16512 ∷ 16520 ∷ 1073741824 ∷ 1073741888 ∷ []) ≡ false ∷ true ∷ false ∷ true ∷ false ∷ [])
+    × ((signatureLow ∷ signatureHigh ∷ []) ≡ 5497841045243514922 ∷ 21479300299440975 ∷ [])
+    × (map (λ o. checked (poolOf ((128, 0) ∷ []) (store o 1 ∷ []))) (0 ∷ 4096 ∷ 8192 ∷ 12288 ∷ 12296 ∷ 12304 ∷ 12312 ∷ 16376 ∷ [])
+    ≡ (0, 0, 0) ∷ (0, 0, 0) ∷ (0, 0, 0) ∷ (1, 0, 0) ∷ (1, 0, 0) ∷ (1, 0, 0) ∷ (1, 0, 0) ∷ (1, 0, 0) ∷ [])
+    -- fault 1, by the first clump's nbytes; 192 leaves the next header at 16576, where nbytes is 0
+    × (map (λ w. checked (poolOf ((128, 0) ∷ (128, 0) ∷ []) (store 16384 w ∷ []))) (64 ∷ 136 ∷ 192 ∷ 256 ∷ 320 ∷ [])
+    ≡ (2, 16384, 1) ∷ (2, 16384, 1) ∷ (2, 16576, 1) ∷ (0, 0, 0) ∷ (2, 16384, 1) ∷ [])
+    -- fault 2, by the second clump's state
+    × (map (λ s. checked (poolOf ((128, 0) ∷ (128, s) ∷ []) [])) (4 ∷ 5 ∷ []) ≡ (0, 0, 0) ∷ (2, 16512, 2) ∷ [])
+    -- fault 3, by the targets of a RESERVED clump; the list of a FREE one means nothing
+    × (map (λ t. checked (listing 1 t)) ((0, 4096, 0) ∷ (4096, 0, 8184) ∷ (4096, 8184, 16632) ∷ (4100, 0, 0) ∷ (4096, 8192, 0) ∷ (16376, 0, 0) ∷ (16384, 0, 0) ∷ (16640, 0, 0) ∷ [])
+    ≡ (2, 16384, 3) ∷ (2, 16384, 3) ∷ (0, 0, 0) ∷ (2, 16384, 3) ∷ (2, 16384, 3) ∷ (2, 16384, 3) ∷ (0, 0, 0) ∷ (2, 16384, 3) ∷ [])
+    × (checked (listing 0 (4100, 0, 1)) ≡ (0, 0, 0))
+    -- fault 4, and the lower number before the higher
+    × (map (λ s. checked (poolOf ((128, 2) ∷ (128, s) ∷ []) (store 16400 16384 ∷ []))) (2 ∷ 4 ∷ 5 ∷ [])
+    ≡ (2, 16512, 4) ∷ (2, 16512, 4) ∷ (2, 16512, 2) ∷ [])
+    -- fault 5, by the targets of an ACTIVATING clump, where empty entries may stand anywhere
+    × (map (λ t. checked (listing 2 t)) ((0, 4096, 0) ∷ (16448, 0, 16504) ∷ (16384, 0, 0) ∷ (16576, 0, 0) ∷ [])
+    ≡ (0, 0, 0) ∷ (0, 0, 0) ∷ (2, 16384, 5) ∷ (2, 16384, 5) ∷ [])
+    -- valid targets, with ACTIVE 128 and FREE 128
+    × (map (isValid (walk 16640 (listing 3 (0, 0, 0) .1))) (4088 ∷ 4096 ∷ 8184 ∷ 8192 ∷ 16440 ∷ 16448 ∷ 16452 ∷ 16504 ∷ 16512 ∷ 16576 ∷ [])
+    ≡ false ∷ true ∷ true ∷ false ∷ false ∷ true ∷ false ∷ true ∷ false ∷ false ∷ [])
+    -- answer 3: two FREE touch, or a clump is unfinished; never of check and recover
+    × (map (answered (poolOf ((128, 0) ∷ (128, 0) ∷ []) [])) (Reserve 0 ∷ Activate 16448 ∷ Check ∷ Recover ∷ []) ≡ 3 ∷ 3 ∷ 0 ∷ 0 ∷ [])
+    × (map (answered (listing 2 (0, 0, 0))) (Reserve 1 ∷ Free 16448 ∷ Check ∷ Recover ∷ []) ≡ 3 ∷ 3 ∷ 0 ∷ 0 ∷ [])
+    -- answers 4, 6 and 7, with FREE 128 and ACTIVE 128
+    × (map (answered (poolOf ((128, 0) ∷ (128, 3) ∷ []) [])) (Reserve 0 ∷ Activate 16384 ∷ Activate 16448 ∷ Free 16448 ∷ Withdraw 16448 ∷ Activate 16576 ∷ Onactive 16576 4096 1 ∷ [])
+    ≡ 4 ∷ 6 ∷ 7 ∷ 7 ∷ 7 ∷ 7 ∷ 7 ∷ [])
+    -- answers 7, 8, 9 and 10 on a RESERVED clump: its list full, then empty
+    × (map (answered (listing 1 (4096, 4096, 4096))) (Onfree 16448 4096 1 ∷ Onactive 16448 8192 1 ∷ Withdraw 16448 ∷ []) ≡ 7 ∷ 8 ∷ 0 ∷ [])
+    × (map (answered (listing 1 (0, 0, 0))) (Withdraw 16448 ∷ Onactive 16448 8192 1 ∷ Onactive 16448 16504 1 ∷ Free 16448 ∷ []) ≡ 9 ∷ 10 ∷ 0 ∷ 0 ∷ [])
+    -- answer 10 of a target that was listed and lies in a FREE body now: activate and free of an ACTIVE clump, not free of a RESERVED one
+    × ((answered (listing 1 (16576, 0, 0)) (Activate 16448) ∷ answered (listing 3 (16576, 0, 0)) (Free 16448) ∷ answered (listing 1 (16576, 0, 0)) (Free 16448) ∷ []) ≡ 10 ∷ 10 ∷ 0 ∷ [])
+    -- first fit: of two clumps that fit, the lower; of three, the first that is large enough
+    × (map (λ size. answerOf longest (verdict 17152 (poolOf ((128, 0) ∷ (128, 3) ∷ (256, 0) ∷ (128, 3) ∷ (128, 0) ∷ []) [] .1) (Reserve size)) .place) (1 ∷ 65 ∷ 193 ∷ []) ≡ 16448 ∷ 16704 ∷ 0 ∷ [])
+    -- the lists of stores
+    × (listOf (poolOf ((1216, 0) ∷ []) []) (Reserve 1000)
+    ≡ (17472, 128) ∷ (17480, 0) ∷ (16400, 0) ∷ (16416, 0) ∷ (16432, 0) ∷ (16384, 1088) ∷ (16392, 1) ∷ [])
+    × (listOf (poolOf ((1152, 0) ∷ []) []) (Reserve 1000) ≡ (16400, 0) ∷ (16416, 0) ∷ (16432, 0) ∷ (16392, 1) ∷ [])
+    × (listOf (listing 1 (4096, 0, 0)) (Onactive 16448 8184 9) ≡ (16424, 9) ∷ (16416, 8184) ∷ [])
+    × (listOf (listing 3 (4096, 4096, 0)) (Onfree 16448 16448 5) ≡ (16440, 5) ∷ (16432, 16448) ∷ [])
+    × (listOf (listing 3 (4096, 4104, 0)) (Withdraw 16448) ≡ (16416, 0) ∷ [])
+    × (listOf caseH (Activate 16448) ≡ (16392, 2) ∷ (4096, 7) ∷ (4096, 9) ∷ (16400, 0) ∷ (16416, 0) ∷ (16392, 3) ∷ [])
+    × (listOf between (Free 16576) ≡ (16520, 4) ∷ (4096, 7) ∷ (16520, 0) ∷ (16512, 256) ∷ (16384, 384) ∷ [])
+    × (listOf (listing 1 (4096, 0, 0)) (Free 16448) ≡ (16392, 0) ∷ (16384, 256) ∷ [])
+    × (listOf broken Recover ≡ (4096, 7) ∷ (16648, 0) ∷ (16520, 0) ∷ (16904, 0) ∷ (16384, 384) ∷ (16896, 256) ∷ [])
+    × (listOf (under longest broken Recover) Recover ≡ [])
+    -- totals; fuses of 0, one too few, and enough
+    × (totalsFor (verdict (broken .0) (broken .1) Check) (walk (broken .0) (broken .1))
+    ≡ record { free = 256; reserved = 256; activating = 0; active = 128; freeing = 128 })
+    × (map fused (0 ∷ 6 ∷ 7 ∷ 8 ∷ [])
+    ≡ (11, 0, 0) ∷ (11, 0, 6) ∷ (0, 16448, 7) ∷ (0, 16448, 7) ∷ [])
+
+samples : Samples
+unfolding everyRule
+samples = (refl, refl, refl, refl, refl, refl, refl, refl, refl, refl, refl, refl, refl, refl, refl, refl, refl, refl, refl, refl, refl, refl, refl, refl, refl, refl, refl, refl, refl, refl, refl)

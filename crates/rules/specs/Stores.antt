@@ -1,0 +1,152 @@
+-- The list of stores of each request (01, "Stores and the fuse"). A list reads the memory before the request alone.
+-- Assumes nothing.
+use Prim.Native.Nat.{ℕ, _+_, _-_, _*_, _/_}
+use mathlib.Core.Bool.{Bool, cond, _&&_, _||_}
+use mathlib.Core.Option.{Option, some, none}
+use mathlib.Core.List.{List, [], _∷_, _++_, map}
+use lib.Dec.{eqb, leb}
+use Rattle.rules.specs.Lists.{seek, those}
+use Rattle.rules.specs.Words.{Mem, Store, store, wordBytes, zeros}
+use Rattle.rules.specs.Pages.{pageBytes, staticAt, headerAt, signatureLow, signatureHigh, signatureHighAt, totalAt, paddingAt, paddingWords, clumpsAt, unit}
+use Rattle.rules.specs.Clumps.{Head, headerBytes, stateAt, endOf, FREE, RESERVED, ACTIVATING, ACTIVE, FREEING, hasState, isFree, isPending, slots, valueAt, usedSlots, entries}
+use Rattle.rules.specs.Answers.{bytesOf}
+
+-- 0 to each of the target words
+abbrev pub emptying : List ℕ → List Store
+emptying sl = map (λ s. store s 0) sl
+
+abbrev pub setState : Head → ℕ → Store
+setState h s = store (stateAt (h .at)) s
+
+-- "Create: 0 to 12288; 0 to each static word, upward; the words 12296 to 16376 upward as the header wants them; the eight words
+-- at 16384 (nbytes = length - 16384, then zeros); last the first signature word at 12288."
+unfoldable pub createStores : ℕ → List Store
+createStores n =
+    store headerAt 0
+    ∷ (zeros staticAt (pageBytes / wordBytes)
+    ++ (store signatureHighAt signatureHigh
+    ∷ store totalAt n
+    ∷ (zeros paddingAt paddingWords
+    ++ (store clumpsAt (n - clumpsAt)
+    ∷ (zeros (clumpsAt + wordBytes) (headerBytes / wordBytes - 1) ++ (store headerAt signatureLow ∷ []))))))
+
+-- "1,033 stores."
+abbrev pub createCount : ℕ
+createCount = 1033
+
+-- "need = 64 + the size rounded up to a multiple of 64, in whole numbers, never wrapped"
+unfoldable pub needOf : ℕ → ℕ
+needOf size = headerBytes + (size + (unit - 1)) / unit * unit
+
+-- "the first FREE clump with nbytes at least need"
+abbrev pub fits : ℕ → Head → Bool
+fits need h = isFree h && leb need (h .nbytes)
+
+-- "With a rest of 128 or more" the clump is split
+abbrev pub leastRest : ℕ
+leastRest = 128
+
+-- "nbytes and state FREE of the rest's header; then 0 to the three targets of the chosen clump; nbytes = need; state RESERVED.
+-- .. With a smaller rest the whole clump is used: targets, state"
+unfoldable pub reserveStores : ℕ → Head → List Store
+reserveStores need h =
+    let a = h .at in
+    let rest = h .nbytes - need in
+    cond (leb leastRest rest)
+    (store (a + need) rest
+    ∷ store (stateAt (a + need)) FREE
+    ∷ (emptying (slots a) ++ (store a need ∷ setState h RESERVED ∷ [])))
+    (emptying (slots a) ++ (setState h RESERVED ∷ []))
+
+-- "into the first empty entry, value, then target"
+abbrev pub listStores : ℕ → ℕ → ℕ → List Store
+listStores s target value = store (valueAt s) value ∷ store s target ∷ []
+
+-- "0 to the last used target"
+abbrev pub lastOf : ℕ → List ℕ → ℕ
+lastOf s [] = s
+lastOf s (t ∷ sl) = lastOf t sl
+
+abbrev pub withdrawStores : ℕ → List ℕ → List Store
+withdrawStores s sl = store (lastOf s sl) 0 ∷ []
+
+-- "each value to its target, in list order; 0 to each used target word of the list, first to last; state ACTIVE"
+unfoldable pub finishActivating : Mem → Head → List Store
+finishActivating m h = entries m (h .at) ++ (emptying (usedSlots m (h .at)) ++ (setState h ACTIVE ∷ []))
+
+-- "the assignments in order; state FREE"
+unfoldable pub finishFreeing : Mem → Head → List Store
+finishFreeing m h = entries m (h .at) ++ (setState h FREE ∷ [])
+
+-- "State ACTIVATING; each value to its target .. "
+unfoldable pub activateStores : Mem → Head → List Store
+activateStores m h = setState h ACTIVATING ∷ finishActivating m h
+
+-- "RESERVED: state FREE, list dropped. ACTIVE: .. state FREEING; the assignments in order; state FREE."
+unfoldable pub dropStores : Mem → Head → List Store
+dropStores m h = cond (hasState ACTIVE h) (setState h FREEING ∷ finishFreeing m h) (setState h FREE ∷ [])
+
+-- the next clump, if it is FREE, and the one before, if it is
+abbrev pub freeAfter : List Head → Head → Option Head
+freeAfter hs h = seek (λ k. isFree k && eqb (k .at) (endOf h)) hs
+
+abbrev pub freeBefore : List Head → Head → Option Head
+freeBefore hs h = seek (λ k. isFree k && eqb (endOf k) (h .at)) hs
+
+-- "Then, if the next clump is FREE, nbytes = both; then, if the one before is FREE, its nbytes = all."
+abbrev pub joinBefore : Option Head → ℕ → List Store
+joinBefore none size = []
+joinBefore (some k) size = store (k .at) (k .nbytes + size) ∷ []
+
+abbrev pub joinBoth : Option Head → Option Head → Head → List Store
+joinBoth none before h = joinBefore before (h .nbytes)
+joinBoth (some k) before h = store (h .at) (h .nbytes + k .nbytes) ∷ joinBefore before (h .nbytes + k .nbytes)
+
+unfoldable pub freeStores : Mem → List Head → Head → List Store
+freeStores m hs h = dropStores m h ++ joinBoth (freeAfter hs h) (freeBefore hs h) h
+
+-- "finish the ACTIVATING clump (assign, empty the list, ACTIVE) or the FREEING one (assign, FREE)"
+abbrev pub finishing : Mem → Option Head → List Store
+finishing m none = []
+finishing m (some h) = cond (hasState ACTIVATING h) (finishActivating m h) (finishFreeing m h)
+
+-- "then each RESERVED to FREE, upward"
+unfoldable pub releasing : List Head → List Store
+releasing hs = map (λ h. setState h FREE) (those (hasState RESERVED) hs)
+
+-- the clump as it then is
+abbrev pub released : Head → Head
+released h =
+    record {
+      at = h .at;
+      nbytes = h .nbytes;
+      state = cond (hasState RESERVED h || hasState FREEING h) FREE (cond (hasState ACTIVATING h) ACTIVE (h .state));
+    }
+
+-- the clumps in runs: touching FREE clumps make one, and any other clump is one by itself
+pub record Run : Type 0 where
+  pub first : Head
+  pub more : List Head
+
+abbrev pub inFront : Head → List Run → List Run
+inFront h [] = record { first = h; more = [] } ∷ []
+inFront h (r ∷ rs) =
+    cond (isFree h && isFree (r .first))
+    (record { first = h; more = r .first ∷ r .more } ∷ rs)
+    (record { first = h; more = [] } ∷ r ∷ rs)
+
+unfoldable pub runs : List Head → List Run
+runs [] = []
+runs (h ∷ hs) = inFront h (runs hs)
+
+-- "then, upward, one store for each run of touching FREE clumps, their sum to the nbytes of its first"
+abbrev pub joinRun : Head → List Head → List Store → List Store
+joinRun h [] st = st
+joinRun h (k ∷ hs) st = store (h .at) (bytesOf (h ∷ k ∷ hs)) ∷ st
+
+unfoldable pub joining : List Run → List Store
+joining [] = []
+joining (r ∷ rs) = joinRun (r .first) (r .more) (joining rs)
+
+unfoldable pub recoverStores : Mem → List Head → List Store
+recoverStores m hs = finishing m (seek isPending hs) ++ (releasing hs ++ joining (runs (map released hs)))

@@ -1,0 +1,4 @@
+-- Laws of words, of memories and of runs of stores. Nothing above this crate opens `put` or `wordAt` again.
+pub mod Parts
+pub mod Memory
+pub mod Runs

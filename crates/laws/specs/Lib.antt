@@ -1,0 +1,8 @@
+-- What follows from the rules alone.
+pub mod Searches
+pub mod Tilings
+pub mod Walks
+pub mod Pools
+pub mod Totals
+pub mod Headers
+pub mod Independence

@@ -1,0 +1,69 @@
+-- What a granted request tells of the image: each test before it failed. By cases on the tests. Assumes nothing.
+use Prim.Native.Nat.{ℕ, _%_, _≤_}
+use mathlib.Core.Path.{_≡_, refl}
+use mathlib.Core.Bool.{Bool, true, false, not}
+use mathlib.Core.Option.{Option, some, none}
+use mathlib.Core.List.{List}
+use native.Mathlib.Omega.{arith}
+use borrow.Author.Tests.{leb-true, eqb-true, not-false}
+use Rattle.rules.specs.Words.{Mem, Store}
+use Rattle.rules.specs.Pages.{leastLength, mostLength, unit, rightLength, isPool}
+use Rattle.rules.specs.Clumps.{walk}
+use Rattle.rules.specs.Sound.{Fault, judge, unsettled}
+use Rattle.rules.specs.Answers.{Verdict, refused, granted, test, testFault, ifSound, ifSettled}
+use Rattle.laws.specs.Searches.{and-both}
+
+-- a refusal is no grant
+pub never-granted {ℓ} : {B : Type ℓ} {a q f p : ℕ} {st : List Store} → refused a q f ≡ granted p st → B
+never-granted e = absurd (let z : _≡_ {A = ℕ} 0 1 = cc in omega arith)
+
+pub record RightLength (n : ℕ) : Type 0 where
+  pub least : leastLength ≤ n
+  pub most : n ≤ mostLength
+  pub whole : n % unit ≡ 0
+
+pub right-length : (n : ℕ) → rightLength n ≡ true → RightLength n
+unfolding rightLength
+right-length n e =
+    let a = and-both _ _ e in
+    let b = and-both _ _ (a .0) in
+    record { least = leb-true leastLength n (b .0); most = leb-true n mostLength (b .1); whole = eqb-true (n % unit) 0 (a .1) }
+
+pub pool-length : (n : ℕ) (m : Mem) → isPool n m ≡ true → RightLength n
+unfolding isPool
+pool-length n m e =
+    let a = and-both _ _ e in
+    let b = and-both _ _ (a .0) in
+    let c = and-both _ _ (b .0) in
+    let d = and-both _ _ (c .0) in
+    right-length n (d .0)
+
+pub test-granted : (b : Bool) (a p : ℕ) (v : Verdict) (st : List Store) → test b a v ≡ granted p st → (b ≡ false) × (v ≡ granted p st)
+test-granted true a p v st e = never-granted e
+test-granted false a p v st e = (refl, e)
+
+fault-granted : (o : Option Fault) (p : ℕ) (v : Verdict) (st : List Store) → testFault o v ≡ granted p st → (o ≡ none) × (v ≡ granted p st)
+fault-granted none p v st e = (refl, e)
+fault-granted (some f) p v st e = never-granted e
+
+-- granted behind the tests 1 and 2
+pub record Sound (n : ℕ) (m : Mem) : Type 0 where
+  pub pool : isPool n m ≡ true
+  pub sound : judge n m ≡ none
+
+pub sound-granted : (n : ℕ) (m : Mem) (p : ℕ) (v : Verdict) (st : List Store) → ifSound n m v ≡ granted p st → Sound n m × (v ≡ granted p st)
+unfolding ifSound
+sound-granted n m p v st e =
+    let a = test-granted (not (isPool n m)) 1 p _ st e in
+    let b = fault-granted (judge n m) p v st (a .1) in
+    (record { pool = not-false _ (a .0); sound = b .0 }, b .1)
+
+-- granted behind the tests 1, 2 and 3
+pub settled-granted :
+    (n : ℕ) (m : Mem) (p : ℕ) (v : Verdict) (st : List Store)
+    → ifSettled n m v ≡ granted p st → Sound n m × (unsettled (walk n m) ≡ false) × (v ≡ granted p st)
+unfolding ifSettled
+settled-granted n m p v st e =
+    let a = sound-granted n m p _ st e in
+    let b = test-granted (unsettled (walk n m)) 3 p v st (a .1) in
+    (a .0, b .0, b .1)

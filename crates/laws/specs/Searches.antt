@@ -1,0 +1,127 @@
+-- Laws of the rules' searches, choices and tests on lists, each by induction on the list. Assumes nothing.
+use mathlib.Core.Path.{_≡_, refl, sym, ap, _∙_, subst}
+use mathlib.Core.Bool.{Bool, true, false, _&&_, _||_}
+use mathlib.Core.Option.{Option, some, none}
+use mathlib.Core.List.{List, [], _∷_, _++_}
+use Prim.Native.Nat.{ℕ}
+use native.Mathlib.Omega.{arith}
+use Rattle.rules.specs.Lists.{seek, any, all, Each}
+
+-- a Bool is not both
+pub differ {ℓ} : {A : Type ℓ} {b : Bool} → b ≡ true → b ≡ false → A
+differ p q = absurd (let z : _≡_ {A = ℕ} 0 1 = cc in omega arith)
+
+pub some-none {ℓ} : {A : Type 0} {B : Type ℓ} {x : A} {o : Option A} → o ≡ some x → o ≡ none → B
+some-none p q = absurd (let z : _≡_ {A = ℕ} 0 1 = cc in omega arith)
+
+-- of a test that is or is not passed
+pub or-neither : (a b : Bool) → (a || b) ≡ false → (a ≡ false) × (b ≡ false)
+or-neither true b e = (e, cc)
+or-neither false b e = (refl, e)
+
+pub and-both : (a b : Bool) → (a && b) ≡ true → (a ≡ true) × (b ≡ true)
+and-both true b e = (refl, e)
+and-both false b e = (e, cc)
+
+module _ {A : Type 0} where
+  -- a search stops at an element that passes, and passes over one that does not
+  pub seek-hit : (p : A → Bool) (x : A) (xs : List A) → p x ≡ true → seek p (x ∷ xs) ≡ some x
+  unfolding seek
+  seek-hit p x xs e = rw (e, seek)
+
+  pub seek-pass : (p : A → Bool) (x : A) (xs : List A) → p x ≡ false → seek p (x ∷ xs) ≡ seek p xs
+  unfolding seek
+  seek-pass p x xs e = rw (e, seek)
+
+  pub seek-nil : (p : A → Bool) → seek p [] ≡ none
+  unfolding seek
+  seek-nil p = refl
+
+  -- what is found passes, and nothing before it does
+  pub record Split (p : A → Bool) (xs : List A) (x : A) : Type 0 where
+    pub lower : List A
+    pub higher : List A
+    pub whole : xs ≡ lower ++ (x ∷ higher)
+    pub before : Each (λ y. p y ≡ false) lower
+    pub passes : p x ≡ true
+
+  pub seek-split : (p : A → Bool) (xs : List A) (x : A) → seek p xs ≡ some x → Split p xs x
+  seek-split p [] x e = some-none e (seek-nil p)
+  seek-split p (y ∷ xs) x e = go (p y) refl (seek-split p xs x)
+    where
+      go : (t : Bool) → p y ≡ t → (seek p xs ≡ some x → Split p xs x) → Split p (y ∷ xs) x
+      go true q ih =
+          let i : y ≡ x = (let z = seek-hit p y xs q in cc) in
+          record { lower = []; higher = xs; whole = ap (λ (w : A). w ∷ xs) i; before = tt; passes = rw (← i) q }
+      go false q ih =
+          let r = ih (sym (seek-pass p y xs q) ∙ e) in
+          record { lower = y ∷ r .lower; higher = r .higher; whole = ap (λ (w : List A). y ∷ w) (r .whole); before = (q, r .before); passes = r .passes }
+
+  -- nothing is found exactly where nothing passes
+  pub seek-none : (p : A → Bool) (xs : List A) → seek p xs ≡ none → Each (λ y. p y ≡ false) xs
+  seek-none p [] e = tt
+  seek-none p (y ∷ xs) e = go (p y) refl (seek-none p xs)
+    where
+      go : (t : Bool) → p y ≡ t → (seek p xs ≡ none → Each (λ z. p z ≡ false) xs) → Each (λ z. p z ≡ false) (y ∷ xs)
+      go true q ih = some-none (seek-hit p y xs q) e
+      go false q ih = (q, ih (sym (seek-pass p y xs q) ∙ e))
+
+  pub none-seek : (p : A → Bool) (xs : List A) → Each (λ y. p y ≡ false) xs → seek p xs ≡ none
+  none-seek p [] e = seek-nil p
+  none-seek p (y ∷ xs) e = seek-pass p y xs (e .0) ∙ none-seek p xs (e .1)
+
+  -- tests that agree on a list find the same
+  pub seek-same : (p q : A → Bool) (xs : List A) → Each (λ x. p x ≡ q x) xs → seek p xs ≡ seek q xs
+  seek-same p q [] e = seek-nil p ∙ sym (seek-nil q)
+  seek-same p q (x ∷ xs) e = go (q x) refl (seek-same p q xs (e .1))
+    where
+      go : (t : Bool) → q x ≡ t → seek p xs ≡ seek q xs → seek p (x ∷ xs) ≡ seek q (x ∷ xs)
+      go true f ih = seek-hit p x xs (e .0 ∙ f) ∙ sym (seek-hit q x xs f)
+      go false f ih = seek-pass p x xs (e .0 ∙ f) ∙ ih ∙ sym (seek-pass q x xs f)
+
+  -- what holds of each element holds of the one that is found
+  pub seek-each : (P : A → Type 0) (p : A → Bool) (xs : List A) (x : A) → seek p xs ≡ some x → Each P xs → P x
+  seek-each P p [] x e f = some-none e (seek-nil p)
+  seek-each P p (y ∷ xs) x e f = go (p y) refl (seek-each P p xs x)
+    where
+      go : (t : Bool) → p y ≡ t → (seek p xs ≡ some x → Each P xs → P x) → P x
+      go true q ih = let i : y ≡ x = (let z = seek-hit p y xs q in cc) in subst P i (f .0)
+      go false q ih = ih (sym (seek-pass p y xs q) ∙ e) (f .1)
+
+  -- each of two parts
+  pub each-append : (P : A → Type 0) (xs ys : List A) → Each P xs → Each P ys → Each P (xs ++ ys)
+  each-append P [] ys f g = g
+  each-append P (x ∷ xs) ys f g = (f .0, each-append P xs ys (f .1) g)
+
+  pub each-map : (P Q : A → Type 0) (xs : List A) → ((x : A) → P x → Q x) → Each P xs → Each Q xs
+  each-map P Q [] h f = tt
+  each-map P Q (x ∷ xs) h f = (h x (f .0), each-map P Q xs h (f .1))
+
+  -- some element passes exactly where a search finds one
+  pub any-hit : (p : A → Bool) (x : A) (xs : List A) → p x ≡ true → any p (x ∷ xs) ≡ true
+  unfolding any
+  any-hit p x xs e = rw e
+
+  pub any-pass : (p : A → Bool) (x : A) (xs : List A) → p x ≡ false → any p (x ∷ xs) ≡ any p xs
+  unfolding any
+  any-pass p x xs e = rw e
+
+  pub any-none : (p : A → Bool) (xs : List A) → any p xs ≡ false → Each (λ y. p y ≡ false) xs
+  unfolding any
+  any-none p [] e = tt
+  any-none p (x ∷ xs) e = let r = or-neither (p x) (any p xs) e in (r .0, any-none p xs (r .1))
+
+  pub none-any : (p : A → Bool) (xs : List A) → Each (λ y. p y ≡ false) xs → any p xs ≡ false
+  unfolding any
+  none-any p [] e = refl
+  none-any p (x ∷ xs) e = rw (e .0) (none-any p xs (e .1))
+
+  pub any-same : (p q : A → Bool) (xs : List A) → Each (λ x. p x ≡ q x) xs → any p xs ≡ any q xs
+  unfolding any
+  any-same p q [] e = refl
+  any-same p q (x ∷ xs) e = rw (e .0, any-same p q xs (e .1))
+
+  pub all-same : (p q : A → Bool) (xs : List A) → Each (λ x. p x ≡ q x) xs → all p xs ≡ all q xs
+  unfolding all
+  all-same p q [] e = refl
+  all-same p q (x ∷ xs) e = rw (e .0, all-same p q xs (e .1))

@@ -1,0 +1,79 @@
+-- Check's totals add up: a tiling's clumps fill it, and each clump is in one of the five states. By induction on the clumps.
+-- Assumes nothing.
+use Prim.Native.Nat.{ℕ, zero, suc, _+_, _≤_}
+use mathlib.Core.Path.{_≡_, refl, _∙_}
+use mathlib.Core.Bool.{Bool, true, false, not}
+use mathlib.Core.Option.{Option, some, none}
+use mathlib.Core.List.{List, [], _∷_}
+use native.Mathlib.Omega.{arith}
+use lib.ListN.{length}
+use Rattle.rules.specs.Lists.{those}
+use Rattle.rules.specs.Clumps.{Head, Tiles, walk, FREE, RESERVED, ACTIVATING, ACTIVE, FREEING}
+use Rattle.rules.specs.Words.{Mem, mem}
+use Rattle.rules.specs.Pages.{clumpsAt, isPool}
+use Rattle.rules.specs.Sound.{Fault, judge}
+use Rattle.rules.specs.Answers.{granted, test, testFault, ifSound, answerOf, done, notPool, bytesOf, totalOf}
+use Rattle.rules.specs.Requests.{verdict}
+use Rattle.rules.specs.Demands.{TotalsAdd}
+use Rattle.rules.specs.declared.Request.the-variants.{Check}
+use Rattle.laws.specs.Walks.{sound-tiles}
+use Rattle.laws.specs.Pools.{Sound, pool-length}
+
+-- a tiling is as long as its clumps together
+pub tiles-bytes : (a b : ℕ) (hs : List Head) → Tiles a hs b → a + bytesOf hs ≡ b
+unfolding bytesOf
+tiles-bytes a b [] t = omega arith
+tiles-bytes a b (h ∷ hs) t = let r = tiles-bytes (a + h .nbytes) b hs (t .1) in omega arith
+
+-- a state is one of five
+pub five : (P : ℕ → Type 0) → P 0 → P 1 → P 2 → P 3 → P 4 → (s : ℕ) → s ≤ 4 → P s
+five P a b c d e zero l = a
+five P a b c d e (suc zero) l = b
+five P a b c d e (suc (suc zero)) l = c
+five P a b c d e (suc (suc (suc zero))) l = d
+five P a b c d e (suc (suc (suc (suc zero)))) l = e
+five P a b c d e (suc (suc (suc (suc (suc n))))) l = absurd (omega arith)
+
+abbrev sum5 : List Head → ℕ
+sum5 hs = totalOf FREE hs + totalOf RESERVED hs + totalOf ACTIVATING hs + totalOf ACTIVE hs + totalOf FREEING hs
+
+pub states-bytes : (a b : ℕ) (hs : List Head) → Tiles a hs b → sum5 hs ≡ bytesOf hs
+unfolding bytesOf those
+states-bytes a b [] t = refl
+states-bytes a b (h ∷ hs) t =
+    let r = states-bytes (a + h .nbytes) b hs (t .1) in
+    five (λ s. sum5 (record { at = h .at; nbytes = h .nbytes; state = s } ∷ hs) ≡ h .nbytes + bytesOf hs)
+    (omega arith)
+    (omega arith)
+    (omega arith)
+    (omega arith)
+    (omega arith)
+    (h .state)
+    (t .0 .known)
+
+-- an accepted check has a sound pool
+check-sound : (n : ℕ) (m : Mem) (fuse : ℕ) → answerOf fuse (ifSound n m (granted 0 [])) .answer ≡ done → Sound n m
+unfolding answerOf ifSound
+check-sound n m fuse e = go (isPool n m) refl (judge n m) refl e
+  where
+    go :
+        (t : Bool)
+        → isPool n m ≡ t
+        → (o : Option Fault)
+        → judge n m ≡ o
+        → answerOf fuse (test (not t) notPool (testFault o (granted 0 []))) .answer ≡ done
+        → Sound n m
+    go true p none q f = record { pool = p; sound = q }
+    go true p (some x) q f = absurd (omega arith)
+    go false p o q f = absurd (omega arith)
+
+pub totals-add : TotalsAdd
+unfolding verdict ifSound
+totals-add img fuse e =
+    let n = length img in
+    let m = mem img in
+    let s = check-sound n m fuse e in
+    let l = pool-length n m (s .pool) in
+    let t = sound-tiles n m (omega arith) (s .sound) in
+    let v : verdict n m Check ≡ granted 0 [] = rw (s .pool, s .sound) in
+    rw v (states-bytes clumpsAt n (walk n m) t ∙ omega (arith, tiles-bytes clumpsAt n (walk n m) t))

@@ -1,0 +1,1 @@
+// What follows from the rules alone: theorems about the definitions of the crate `rules`, in specs/. Holds no function.

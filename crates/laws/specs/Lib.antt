@@ -2,6 +2,7 @@
 pub mod Searches
 pub mod Tilings
 pub mod Walks
+pub mod Walking
 pub mod Pools
 pub mod Totals
 pub mod Headers

@@ -12,11 +12,11 @@ use Rattle.rules.specs.declared.Request.the-variants.{Create, Activate, 
 use Rattle.rules.specs.Lists.{those, Each}
 use Rattle.rules.specs.Words.{Image, Store, Bytes, mem}
 use Rattle.rules.specs.Pages.{rightLength, isPool, staticAt, staticEnd, pageBytes, clumpsAt}
-use Rattle.rules.specs.Clumps.{Tiles, FREE, isFree, isLive}
+use Rattle.rules.specs.Clumps.{FREE, isFree, isLive}
 use Rattle.rules.specs.Sound.{judge}
 use Rattle.rules.specs.Stores.{createCount}
 use Rattle.rules.specs.Requests.{cut, finished, finder, storesFor}
-use Rattle.rules.specs.Reading.{clumpsOf, reading}
+use Rattle.rules.specs.Reading.{clumpsOf, Tiled, reading}
 use Rattle.rules.specs.Traces.{asIf, Recovering, Cut, Ready, OnTheWay}
 use Rattle.rules.specs.Demands.{Settled, Accepted, entriesOf}
 
@@ -43,7 +43,7 @@ abbrev pub AlwaysTiles : Type 0
 AlwaysTiles =
     (img : Image)
     → OnTheWay img
-    → Tiles clumpsAt (clumpsOf img) (length img)
+    → Tiled img
     × (isPool (length img) (mem img) ≡ true)
     × (judge (length img) (mem img) ≡ none)
 

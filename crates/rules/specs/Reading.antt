@@ -8,12 +8,16 @@ use lib.ListN.{length}
 use lib.Seq.{slice}
 use Rattle.rules.specs.Lists.{those, any}
 use Rattle.rules.specs.Words.{Image, Store, mem}
-use Rattle.rules.specs.Pages.{staticAt, staticEnd, headerAt}
-use Rattle.rules.specs.Clumps.{Head, bodyOf, endOf, isLive, isWaiting, entries, walk}
+use Rattle.rules.specs.Pages.{staticAt, staticEnd, headerAt, clumpsAt}
+use Rattle.rules.specs.Clumps.{Head, Tiles, bodyOf, endOf, isLive, isWaiting, entries, walk}
 
 -- the clumps of an image
 abbrev pub clumpsOf : Image → List Head
 clumpsOf img = walk (length img) (mem img)
+
+-- the clumps tile from 16384 to the end
+abbrev pub Tiled : Image → Type 0
+Tiled img = Tiles clumpsAt (clumpsOf img) (length img)
 
 -- "The pool's reading: sizes and states along the walk, used entries of RESERVED and ACTIVE clumps, the static area, bodies that
 -- aren't FREE."

@@ -1,0 +1,20 @@
+-- How the code's answers stand for the rules': each is a function of the rule's own answer, so that a contract is an equation.
+-- Assumes nothing.
+use Prim.Native.Nat.{ℕ, _+_}
+use mathlib.Core.Option.{Option, some, none}
+use mathlib.Core.List.{List, [], _∷_}
+use Rattle.rules.specs.Words.{Mem}
+use Rattle.rules.specs.Clumps.{Head, valueAt}
+
+-- the on-list of the clump at a: target and value of each entry
+abbrev pub listAt : Mem → ℕ → List (List ℕ)
+listAt m a =
+    (m (a + 16) ∷ m (a + 24) ∷ [])
+    ∷ (m (a + 32) ∷ m (a + 40) ∷ [])
+    ∷ (m (a + 48) ∷ m (a + 56) ∷ [])
+    ∷ []
+
+-- "yielding the header offset found or an end mark": the end mark is the image's length
+abbrev pub offsetOf : ℕ → Option Head → ℕ
+offsetOf n none = n
+offsetOf n (some h) = h .at

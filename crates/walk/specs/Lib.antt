@@ -1,0 +1,3 @@
+-- What the contracts of `walk` cite beside the rules, and the laws of its loops.
+pub mod Forms
+pub mod Pool

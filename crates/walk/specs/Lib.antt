@@ -1,3 +1,5 @@
 -- What the contracts of `walk` cite beside the rules, and the laws of its loops.
 pub mod Forms
 pub mod Pool
+pub mod Scans
+pub mod Slots

@@ -13,6 +13,7 @@ use lib.Seq.{take-nil}
 use borrow.Author.Tests.{lt-ltb, le-ltb}
 use Rattle.rules.specs.Words.{Image, Mem, Store, Aligned, put, mem, upd, after, carry}
 use Rattle.rules.specs.Answers.{granted, answerAt, answerOf}
+use Rattle.word.specs.Tests.{ltb-same}
 use Rattle.word.specs.Memory.{mem-put, length-put}
 use Rattle.word.specs.declared.Power.{Power}
 
@@ -53,13 +54,6 @@ unfolding after
 after-then = go-then after (λ m x. upd m (x .to) (x .word)) (λ m. refl) (λ m x st. refl)
 
 -- the power of one run and then another
-ltb-same : (a b c d : ℕ) → (a < b → c < d) → (c < d → a < b) → ltb a b ≡ ltb c d
-ltb-same a b c d f g =
-    elim (decLt a b) [
-      | yes h ↦ lt-ltb a b h ∙ sym (lt-ltb c d (f h))
-      | no h ↦ le-ltb a b (omega arith) ∙ sym (le-ltb c d (elim (decLt c d) [ yes k ↦ absurd (h (g k)) | no k ↦ omega arith ]))
-    ]
-
 cut-then : (b : Bool) (f k l : ℕ) → cutBy (cutBy b f k) (f - k) l ≡ cutBy b f (k + l)
 unfolding cutBy
 cut-then true f k l = refl

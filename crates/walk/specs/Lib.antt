@@ -3,3 +3,4 @@ pub mod Forms
 pub mod Pool
 pub mod Scans
 pub mod Slots
+pub mod Judging

@@ -10,11 +10,13 @@ use lib.Dec.{leb, eqb}
 use borrow.Author.Tests.{lt-leb, le-leb, eq-eqb, ne-eqb}
 use Rattle.rules.specs.Lists.{seek, those, any, all}
 use Rattle.rules.specs.Words.{Mem}
-use Rattle.rules.specs.Clumps.{Head, isUsed}
+use Rattle.rules.specs.Pages.{clumpsAt}
+use Rattle.rules.specs.Clumps.{Head, head, Tiles, walk}
 use Rattle.rules.specs.Sound.{lies}
 use Rattle.rules.specs.Stores.{needOf}
 use Rattle.word.specs.Tests.{leb-same}
-use Rattle.laws.specs.Searches.{seek-hit, seek-pass}
+use Rattle.laws.specs.Walking.{Inside, seek-placed}
+use Rattle.walk.specs.Forms.{offsetOf}
 
 pub need-small : (n size : ℕ) → n < 64 → false ≡ leb (needOf size) n
 unfolding needOf
@@ -33,3 +35,27 @@ lies-above a b t l u = rw (le-leb a t l, lt-leb (t + 8) b (omega arith))
 
 pub lies-between : (a b t : ℕ) → a ≤ t → t < b → leb 8 (b - t) ≡ lies a b t
 lies-between a b t l u = rw (le-leb a t l) (leb-same 8 (b - t) (t + 8) b (λ k. omega arith) (λ k. omega arith))
+
+-- what the offset of a search tells, in clumps that tile
+module _ (n : ℕ) (m : Mem) (p : Head → Bool) (tiles : Tiles clumpsAt (walk n m) n) (r : ℕ) (e : r ≡ offsetOf n (seek p (walk n m))) where
+  pub offset-none : n ≤ r → seek p (walk n m) ≡ none
+  offset-none l = go (seek p (walk n m)) refl
+    where
+      go : (o : Option Head) → seek p (walk n m) ≡ o → seek p (walk n m) ≡ none
+      go none q = q
+      go (some h) q =
+          let i = seek-placed n m p h tiles q in
+          let f : r ≡ h .at = e ∙ ap (offsetOf n) q in
+          absurd (omega (arith, i .inside .least, i .inside .room))
+
+  pub offset-some : r < n → seek p (walk n m) ≡ some (head m r)
+  offset-some l = go (seek p (walk n m)) refl
+    where
+      go : (o : Option Head) → seek p (walk n m) ≡ o → seek p (walk n m) ≡ some (head m r)
+      go none q = let f : r ≡ n = e ∙ ap (offsetOf n) q in absurd (omega arith)
+      go (some h) q =
+          let f : r ≡ h .at = e ∙ ap (offsetOf n) q in
+          q ∙ ap {B = Option Head} some (seek-placed n m p h tiles q .head-is ∙ ap (head m) (sym f))
+
+  pub offset-inside : r < n → Inside n m r
+  offset-inside l = seek-placed n m p (head m r) tiles (offset-some l) .inside

@@ -2,5 +2,6 @@
 // Nothing here stores. `pages`, `judge` and `check` ask nothing of the image; `scan` asks that the clumps tile, as they do in every
 // image that `judge` finds sound.
 pub mod clump;
+pub mod judge;
 pub mod pages;
 pub mod scan;

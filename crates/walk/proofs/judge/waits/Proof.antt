@@ -1,0 +1,15 @@
+-- `waits`: RESERVED or ACTIVE, one after the other. Assumes nothing.
+use borrow.Author.Tests.{eq-eqb, ne-eqb}
+use Rattle.walk.proofs.judge.waits.Statement.{statement}
+use Rattle.walk.proofs.judge.waits.Tie as tie
+use Rattle.walk.proofs.judge.waits.Reads as reads
+use Rattle.walk.proofs.judge.waits.Lts as lts
+
+returns : tie.Need-returns
+returns c = rw (eq-eqb _ _ (c .if1 .taken))
+
+returns-2 : tie.Need-returns-2
+returns-2 c = rw (ne-eqb _ _ (c .if1 .left))
+
+pub waits-spec : {M : Type 1} → statement M
+waits-spec = tie.close (tie.spec returns returns-2)

@@ -3,14 +3,14 @@ use Prim.Native.Nat.{ℕ, _%_, _≤_}
 use mathlib.Core.Path.{_≡_, refl}
 use mathlib.Core.Bool.{Bool, true, false, not}
 use mathlib.Core.Option.{Option, some, none}
-use mathlib.Core.List.{List}
+use mathlib.Core.List.{List, []}
 use native.Mathlib.Omega.{arith}
 use borrow.Author.Tests.{leb-true, eqb-true, not-false}
 use Rattle.rules.specs.Words.{Mem, Store}
 use Rattle.rules.specs.Pages.{leastLength, mostLength, unit, rightLength, isPool}
 use Rattle.rules.specs.Clumps.{walk}
 use Rattle.rules.specs.Sound.{Fault, judge, unsettled}
-use Rattle.rules.specs.Answers.{Verdict, refused, granted, test, testFault, ifSound, ifSettled}
+use Rattle.rules.specs.Answers.{done, notPool, answerOf, Verdict, refused, granted, test, testFault, ifSound, ifSettled}
 use Rattle.laws.specs.Searches.{and-both}
 
 -- a refusal is no grant
@@ -67,3 +67,19 @@ settled-granted n m p v st e =
     let a = sound-granted n m p _ st e in
     let b = test-granted (unsettled (walk n m)) 3 p v st (a .1) in
     (a .0, b .0, b .1)
+
+-- an accepted check has a sound pool
+pub check-sound : (n : ℕ) (m : Mem) (fuse : ℕ) → answerOf fuse (ifSound n m (granted 0 [])) .answer ≡ done → Sound n m
+unfolding answerOf ifSound
+check-sound n m fuse e = go (isPool n m) refl (judge n m) refl e
+  where
+    go :
+        (t : Bool)
+        → isPool n m ≡ t
+        → (o : Option Fault)
+        → judge n m ≡ o
+        → answerOf fuse (test (not t) notPool (testFault o (granted 0 []))) .answer ≡ done
+        → Sound n m
+    go true p none q f = record { pool = p; sound = q }
+    go true p (some x) q f = absurd (omega arith)
+    go false p o q f = absurd (omega arith)

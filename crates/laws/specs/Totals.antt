@@ -2,22 +2,19 @@
 -- Assumes nothing.
 use Prim.Native.Nat.{ℕ, zero, suc, _+_, _≤_}
 use mathlib.Core.Path.{_≡_, refl, _∙_}
-use mathlib.Core.Bool.{Bool, true, false, not}
-use mathlib.Core.Option.{Option, some, none}
 use mathlib.Core.List.{List, [], _∷_}
 use native.Mathlib.Omega.{arith}
 use lib.ListN.{length}
 use Rattle.rules.specs.Lists.{those}
 use Rattle.rules.specs.Clumps.{Head, Tiles, walk, FREE, RESERVED, ACTIVATING, ACTIVE, FREEING}
-use Rattle.rules.specs.Words.{Mem, mem}
-use Rattle.rules.specs.Pages.{clumpsAt, isPool}
-use Rattle.rules.specs.Sound.{Fault, judge}
-use Rattle.rules.specs.Answers.{granted, test, testFault, ifSound, answerOf, done, notPool, bytesOf, totalOf}
+use Rattle.rules.specs.Words.{mem}
+use Rattle.rules.specs.Pages.{clumpsAt}
+use Rattle.rules.specs.Answers.{granted, ifSound, bytesOf, totalOf}
 use Rattle.rules.specs.Requests.{verdict}
 use Rattle.rules.specs.Demands.{TotalsAdd}
 use Rattle.rules.specs.declared.Request.the-variants.{Check}
 use Rattle.laws.specs.Walks.{sound-tiles}
-use Rattle.laws.specs.Pools.{Sound, pool-length}
+use Rattle.laws.specs.Pools.{check-sound, pool-length}
 
 -- a tiling is as long as its clumps together
 pub tiles-bytes : (a b : ℕ) (hs : List Head) → Tiles a hs b → a + bytesOf hs ≡ b
@@ -50,22 +47,6 @@ states-bytes a b (h ∷ hs) t =
     (omega arith)
     (h .state)
     (t .0 .known)
-
--- an accepted check has a sound pool
-check-sound : (n : ℕ) (m : Mem) (fuse : ℕ) → answerOf fuse (ifSound n m (granted 0 [])) .answer ≡ done → Sound n m
-unfolding answerOf ifSound
-check-sound n m fuse e = go (isPool n m) refl (judge n m) refl e
-  where
-    go :
-        (t : Bool)
-        → isPool n m ≡ t
-        → (o : Option Fault)
-        → judge n m ≡ o
-        → answerOf fuse (test (not t) notPool (testFault o (granted 0 []))) .answer ≡ done
-        → Sound n m
-    go true p none q f = record { pool = p; sound = q }
-    go true p (some x) q f = absurd (omega arith)
-    go false p o q f = absurd (omega arith)
 
 pub totals-add : TotalsAdd
 unfolding verdict ifSound

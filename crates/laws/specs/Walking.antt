@@ -9,7 +9,7 @@ use native.Mathlib.Omega.{arith}
 use Rattle.rules.specs.Lists.{seek, Each}
 use Rattle.rules.specs.Words.{Mem}
 use Rattle.rules.specs.Pages.{clumpsAt, unit}
-use Rattle.rules.specs.Clumps.{Head, head, stateAt, endOf, leastClump, FREEING, Tiles, headsFrom, walk}
+use Rattle.rules.specs.Clumps.{Head, head, stateAt, leastClump, FREEING, Tiles, walk}
 use Rattle.laws.specs.Searches.{seek-each}
 use Rattle.laws.specs.Tilings.{tiles-le}
 use Rattle.laws.specs.Walks.{Rest, rest-start, rest-end, rest-step, heads-read, Reads}

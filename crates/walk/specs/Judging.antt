@@ -1,6 +1,6 @@
 -- Laws of the judging: each test as the code makes it, and the faults at the end, at a hit and past a clump. Assumes nothing.
-use Prim.Native.Nat.{ℕ, zero, suc, _+_, _-_, _%_, _<_, _≤_}
-use mathlib.Core.Path.{_≡_, refl, sym, ap, ap₂, _∙_}
+use Prim.Native.Nat.{ℕ, _+_, _-_, _%_, _<_, _≤_}
+use mathlib.Core.Path.{_≡_, refl, sym, ap, _∙_}
 use mathlib.Core.Bool.{Bool, true, false, cond, not, _&&_, _||_, or-true}
 use mathlib.Core.Option.{Option, some, none, Option·map}
 use mathlib.Core.List.{List, [], _∷_}
@@ -12,15 +12,14 @@ use borrow.Author.Tests.{lt-ltb, le-ltb, ltb-false, eq-eqb, ne-eqb}
 use Rattle.rules.specs.Lists.{seek, those, any}
 use Rattle.rules.specs.Words.{Mem}
 use Rattle.rules.specs.Pages.{clumpsAt, unit}
-use Rattle.rules.specs.Clumps.{Head, head, stateAt, leastClump, FREEING, isWaiting, isPending, isUsed, slots, headsFrom, walk}
-use Rattle.rules.specs.Sound.{Fault, faultAt, sizeBad, stateBad, inPlace, gapped, listBad, faultOf, clumpFault, second, secondFault, allValid, targetFault, orElse, judge}
+use Rattle.rules.specs.Clumps.{Head, leastClump, FREEING, isWaiting, isPending, isUsed, slots, walk}
+use Rattle.rules.specs.Sound.{Fault, faultAt, sizeBad, stateBad, inPlace, gapped, listBad, faultOf, clumpFault, second, secondFault, allValid, targetFault, judge}
 use Rattle.word.specs.Tests.{ltb-same}
 use Rattle.laws.specs.Searches.{or-neither, seek-hit, seek-pass}
 use Rattle.laws.specs.Walks.{isFaulty, rest-start, rest-end}
 use Rattle.walk.specs.Forms.{gapsIn, listAt, judgedOf}
 use Rattle.walk.specs.declared.judge.Judged.{Judged}
 use Rattle.walk.specs.declared.judge.Judged.the-variants.{Sound, Fault as Broken}
-use Rattle.walk.specs.Slots.{left}
 
 -- fault 1, a law for each way out
 module _ (n : ℕ) (h : Head) where

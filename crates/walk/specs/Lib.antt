@@ -4,3 +4,4 @@ pub mod Pool
 pub mod Scans
 pub mod Slots
 pub mod Judging
+pub mod Checking

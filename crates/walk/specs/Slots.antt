@@ -9,8 +9,7 @@ use native.Mathlib.Numerals.{add-one}
 use lib.Dec.{eqb}
 use lib.ListN.{getD, drop}
 use lib.Seq.{drop-cons}
-use borrow.Author.Tests.{eq-eqb, ne-eqb}
-use Rattle.rules.specs.Lists.{those, any, all}
+use Rattle.rules.specs.Lists.{those, all}
 use Rattle.rules.specs.Words.{Mem}
 use Rattle.rules.specs.Clumps.{slots, isUsed}
 use Rattle.walk.specs.Forms.{listAt}

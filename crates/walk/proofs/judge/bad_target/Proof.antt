@@ -8,10 +8,6 @@ use Rattle.walk.specs.Judging.{target-idle, target-valid, target-bad}
 use borrow.Author.Needs.{needs}
 use Rattle.walk.proofs.judge.bad_target.Statement.{statement}
 use Rattle.walk.proofs.judge.bad_target.Tie as tie
-use Rattle.walk.proofs.judge.bad_target.Reads as reads
-use Rattle.walk.proofs.judge.bad_target.Lts as lts
-use Rattle.walk.proofs.judge.first_pending.Reads as first-pending-reads
-use Rattle.walk.proofs.scan.all_valid.Reads as all-valid-reads
 
 first-pending-requires : tie.Need-first-pending-requires
 first-pending-requires c κs = search needs

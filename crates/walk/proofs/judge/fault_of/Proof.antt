@@ -7,12 +7,6 @@ use Rattle.walk.specs.Judging.{size-good, fault-size, fault-state, fault
 use borrow.Author.Needs.{needs}
 use Rattle.walk.proofs.judge.fault_of.Statement.{statement}
 use Rattle.walk.proofs.judge.fault_of.Tie as tie
-use Rattle.walk.proofs.judge.fault_of.Reads as reads
-use Rattle.walk.proofs.judge.fault_of.Lts as lts
-use Rattle.walk.proofs.clump.Clump.read.Reads as read-reads
-use Rattle.walk.proofs.judge.list_bad.Reads as list-bad-reads
-use Rattle.walk.proofs.judge.size_bad.Reads as size-bad-reads
-use Rattle.walk.proofs.judge.waits.Reads as waits-reads
 
 size-bad-requires : tie.Need-size-bad-requires
 size-bad-requires c κs = search needs

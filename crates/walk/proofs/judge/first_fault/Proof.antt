@@ -3,8 +3,8 @@ use Prim.Native.Nat.{_-_}
 use lib.ListN.{length}
 use native.Mathlib.Omega.{arith}
 use Rattle.rules.specs.Words.{mem}
-use Rattle.rules.specs.Reading.{clumpsOf, Tiled}
-use Rattle.laws.specs.Walking.{Walking, walking-start, walking-end, walking-hit, walking-move, walking-inside}
+use Rattle.rules.specs.Reading.{clumpsOf}
+use Rattle.laws.specs.Walking.{Walking, walking-start, walking-end, walking-hit, walking-move}
 use mathlib.Core.Path.{ap, sym, _∙_}
 use Rattle.rules.specs.Sound.{clumpFault}
 use Rattle.laws.specs.Walks.{faultless}
@@ -12,10 +12,6 @@ use Rattle.walk.specs.Forms.{judgedOf}
 use Rattle.walk.specs.Judging.{clump-hit, clump-pass, clump-end}
 use Rattle.walk.proofs.judge.first_fault.Statement.{statement}
 use Rattle.walk.proofs.judge.first_fault.Tie as tie
-use Rattle.walk.proofs.judge.first_fault.Reads as reads
-use Rattle.walk.proofs.judge.first_fault.Lts as lts
-use Rattle.walk.proofs.clump.Clump.read.Reads as read-reads
-use Rattle.walk.proofs.judge.fault_of.Reads as fault-of-reads
 
 abbrev Inv-loop : tie.InvT-loop
 Inv-loop img h₀ h = Walking (λ hs. judgedOf (clumpFault (length img) (mem img) hs)) (length img) (mem img) h (judgedOf (clumpFault (length img) (mem img) (clumpsOf img)))

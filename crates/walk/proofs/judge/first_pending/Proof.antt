@@ -12,10 +12,6 @@ use Rattle.laws.specs.Searches.{seek-hit, seek-pass}
 use Rattle.walk.specs.Forms.{offsetOf}
 use Rattle.walk.proofs.judge.first_pending.Statement.{statement}
 use Rattle.walk.proofs.judge.first_pending.Tie as tie
-use Rattle.walk.proofs.judge.first_pending.Reads as reads
-use Rattle.walk.proofs.judge.first_pending.Lts as lts
-use Rattle.walk.proofs.clump.Clump.read.Reads as read-reads
-use Rattle.walk.proofs.judge.pending.Reads as pending-reads
 
 abbrev Inv-loop : tie.InvT-loop
 Inv-loop img h₀ h = Tiled img × Walking (λ hs. offsetOf (length img) (seek isPending hs)) (length img) (mem img) h (offsetOf (length img) (seek isPending (clumpsOf img)))

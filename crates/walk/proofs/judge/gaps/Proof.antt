@@ -3,8 +3,6 @@ use mathlib.Core.Bool.{or-self}
 use borrow.Author.Tests.{eq-eqb, ne-eqb}
 use Rattle.walk.proofs.judge.gaps.Statement.{statement}
 use Rattle.walk.proofs.judge.gaps.Tie as tie
-use Rattle.walk.proofs.judge.gaps.Reads as reads
-use Rattle.walk.proofs.judge.gaps.Lts as lts
 
 returns : tie.Need-returns
 returns c = rw (eq-eqb _ _ (c .before .if1 .taken), ne-eqb _ _ (c .if2 .taken))

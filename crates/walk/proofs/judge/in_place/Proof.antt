@@ -5,9 +5,6 @@ use Rattle.rules.specs.Sound.{inPlace}
 use borrow.Author.Needs.{needs}
 use Rattle.walk.proofs.judge.in_place.Statement.{statement}
 use Rattle.walk.proofs.judge.in_place.Tie as tie
-use Rattle.walk.proofs.judge.in_place.Reads as reads
-use Rattle.walk.proofs.judge.in_place.Lts as lts
-use Rattle.walk.proofs.scan.word_lies.Reads as word-lies-reads
 
 returns : tie.Need-returns
 unfolding inPlace

@@ -6,11 +6,6 @@ use Rattle.walk.specs.Forms.{judgedOf}
 use borrow.Author.Needs.{needs}
 use Rattle.walk.proofs.judge.judge.Statement.{statement}
 use Rattle.walk.proofs.judge.judge.Tie as tie
-use Rattle.walk.proofs.judge.judge.Reads as reads
-use Rattle.walk.proofs.judge.judge.Lts as lts
-use Rattle.walk.proofs.judge.bad_target.Reads as bad-target-reads
-use Rattle.walk.proofs.judge.first_fault.Reads as first-fault-reads
-use Rattle.walk.proofs.judge.second_pending.Reads as second-pending-reads
 
 returns : tie.Need-returns
 returns c = ap judgedOf (sym (short-sound _ _ (c .if1 .taken)))

@@ -9,15 +9,10 @@ use Rattle.rules.specs.Lists.{those, any}
 use Rattle.rules.specs.Words.{mem}
 use Rattle.rules.specs.Clumps.{slots}
 use Rattle.rules.specs.Sound.{inPlace, gapped}
-use Rattle.walk.specs.Slots.{Entries, entries-start, entries-hit, entries-move, entries-end}
+use Rattle.walk.specs.Slots.{Entries, entries-hit, entries-move, entries-end}
 use Rattle.walk.specs.Judging.{list-gaps, anyUsed, any-stop, any-go}
 use Rattle.walk.proofs.judge.list_bad.Statement.{statement}
 use Rattle.walk.proofs.judge.list_bad.Tie as tie
-use Rattle.walk.proofs.judge.list_bad.Reads as reads
-use Rattle.walk.proofs.judge.list_bad.Lts as lts
-use Rattle.walk.proofs.clump.Clump.list.Reads as list-reads
-use Rattle.walk.proofs.judge.gaps.Reads as gaps-reads
-use Rattle.walk.proofs.judge.misplaced.Reads as misplaced-reads
 
 abbrev Inv-loop : tie.InvT-loop
 Inv-loop img h l i₀ i = Entries (anyUsed (λ t. not (inPlace (length img) t)) (mem img)) (mem img) h l i (gapped (mem img) (slots h) || anyUsed (λ t. not (inPlace (length img) t)) (mem img) (slots h))

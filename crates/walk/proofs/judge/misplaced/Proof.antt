@@ -5,9 +5,6 @@ use borrow.Author.Tests.{eq-eqb, ne-eqb}
 use borrow.Author.Needs.{needs}
 use Rattle.walk.proofs.judge.misplaced.Statement.{statement}
 use Rattle.walk.proofs.judge.misplaced.Tie as tie
-use Rattle.walk.proofs.judge.misplaced.Reads as reads
-use Rattle.walk.proofs.judge.misplaced.Lts as lts
-use Rattle.walk.proofs.judge.in_place.Reads as in-place-reads
 
 returns : tie.Need-returns
 returns c = rw (eq-eqb _ _ (c .if1 .taken))

@@ -14,10 +14,6 @@ use Rattle.rules.specs.Sound.{secondFault}
 use Rattle.walk.specs.Forms.{judgedOf}
 use Rattle.walk.proofs.judge.second_pending.Statement.{statement}
 use Rattle.walk.proofs.judge.second_pending.Tie as tie
-use Rattle.walk.proofs.judge.second_pending.Reads as reads
-use Rattle.walk.proofs.judge.second_pending.Lts as lts
-use Rattle.walk.proofs.clump.Clump.read.Reads as read-reads
-use Rattle.walk.proofs.judge.pending.Reads as pending-reads
 
 abbrev Inv-loop : tie.InvT-loop
 Inv-loop img h₀ seen₀ h seen = Tiled img × Walking (λ hs. judgedOf (secondFrom seen hs)) (length img) (mem img) h (judgedOf (secondFault (clumpsOf img)))

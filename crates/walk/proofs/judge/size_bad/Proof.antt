@@ -1,13 +1,9 @@
 -- `size_bad`: a law for each way out. Assumes nothing.
 use native.Mathlib.Omega.{arith}
-use Rattle.rules.specs.Clumps.{head}
 use Rattle.walk.specs.Judging.{size-short, size-odd, size-small, size-room}
 use borrow.Author.Needs.{needs}
 use Rattle.walk.proofs.judge.size_bad.Statement.{statement}
 use Rattle.walk.proofs.judge.size_bad.Tie as tie
-use Rattle.walk.proofs.judge.size_bad.Reads as reads
-use Rattle.walk.proofs.judge.size_bad.Lts as lts
-use Rattle.word.proofs.get.Reads as get-reads
 
 sub-room : tie.Need-sub-room
 sub-room c = search needs

@@ -2,8 +2,6 @@
 use borrow.Author.Tests.{eq-eqb, ne-eqb}
 use Rattle.walk.proofs.judge.waits.Statement.{statement}
 use Rattle.walk.proofs.judge.waits.Tie as tie
-use Rattle.walk.proofs.judge.waits.Reads as reads
-use Rattle.walk.proofs.judge.waits.Lts as lts
 
 returns : tie.Need-returns
 returns c = rw (eq-eqb _ _ (c .if1 .taken))

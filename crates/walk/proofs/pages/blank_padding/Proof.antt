@@ -7,8 +7,6 @@ use Rattle.rules.specs.Pages.{paddingAt, paddingWords, clumpsAt}
 use Rattle.word.specs.Blank.{ZeroBytes, blank, not-blank, zero-more}
 use Rattle.walk.proofs.pages.blank_padding.Statement.{statement}
 use Rattle.walk.proofs.pages.blank_padding.Tie as tie
-use Rattle.walk.proofs.pages.blank_padding.Reads as reads
-use Rattle.walk.proofs.pages.blank_padding.Lts as lts
 
 abbrev Inv-loop : tie.InvT-loop
 Inv-loop img i₀ i = (paddingAt ≤ i) × (i ≤ clumpsAt) × ZeroBytes img paddingAt i

@@ -7,11 +7,6 @@ use Rattle.walk.specs.Pool.{no-length, no-low, no-high, no-total, padded
 use borrow.Author.Needs.{needs}
 use Rattle.walk.proofs.pages.is_pool.Statement.{statement}
 use Rattle.walk.proofs.pages.is_pool.Tie as tie
-use Rattle.walk.proofs.pages.is_pool.Reads as reads
-use Rattle.walk.proofs.pages.is_pool.Lts as lts
-use Rattle.walk.proofs.pages.blank_padding.Reads as blank-padding-reads
-use Rattle.walk.proofs.pages.right_length.Reads as right-length-reads
-use Rattle.word.proofs.get.Reads as get-reads
 
 right-length-requires : tie.Need-right-length-requires
 right-length-requires c κs = search needs

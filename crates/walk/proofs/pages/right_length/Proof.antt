@@ -3,8 +3,6 @@ use borrow.Author.Tests.{lt-leb, le-leb}
 use Rattle.rules.specs.Pages.{leastLength, mostLength, rightLength}
 use Rattle.walk.proofs.pages.right_length.Statement.{statement}
 use Rattle.walk.proofs.pages.right_length.Tie as tie
-use Rattle.walk.proofs.pages.right_length.Reads as reads
-use Rattle.walk.proofs.pages.right_length.Lts as lts
 
 returns : tie.Need-returns
 unfolding rightLength

@@ -1,22 +1,16 @@
 -- `all_valid`: what is asked of the used entries is asked of one entry after the other. Assumes nothing.
 use borrow.Author.Tests.{not-true, not-false}
-use Prim.Native.Nat.{_-_, _≤_}
-use mathlib.Core.Path.{_≡_, refl, sym, _∙_}
-use native.Mathlib.Omega.{arith}
+use Prim.Native.Nat.{_-_}
+use mathlib.Core.Path.{sym, _∙_}
 use borrow.Author.Needs.{needs}
 use Rattle.rules.specs.Lists.{those, all}
 use Rattle.rules.specs.Words.{mem}
-use Rattle.rules.specs.Clumps.{head, isUsed}
+use Rattle.rules.specs.Clumps.{head}
 use Rattle.rules.specs.Sound.{isValid, allValid}
 use Rattle.rules.specs.Reading.{clumpsOf, Tiled}
-use Rattle.walk.specs.Forms.{listAt}
 use Rattle.walk.specs.Slots.{Entries, entries-start, entries-hit, entries-move, entries-end, allUsed, all-stop, all-go}
 use Rattle.walk.proofs.scan.all_valid.Statement.{statement}
 use Rattle.walk.proofs.scan.all_valid.Tie as tie
-use Rattle.walk.proofs.scan.all_valid.Reads as reads
-use Rattle.walk.proofs.scan.all_valid.Lts as lts
-use Rattle.walk.proofs.clump.Clump.list.Reads as list-reads
-use Rattle.walk.proofs.scan.entry_valid.Reads as entry-valid-reads
 
 abbrev Inv-loop : tie.InvT-loop
 Inv-loop img h l i₀ i = Tiled img × Entries (allUsed (isValid (clumpsOf img)) (mem img)) (mem img) h l i (allValid (mem img) (clumpsOf img) (head (mem img) h))

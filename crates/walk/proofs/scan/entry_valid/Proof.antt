@@ -3,9 +3,6 @@ use borrow.Author.Tests.{eq-eqb, ne-eqb}
 use borrow.Author.Needs.{needs}
 use Rattle.walk.proofs.scan.entry_valid.Statement.{statement}
 use Rattle.walk.proofs.scan.entry_valid.Tie as tie
-use Rattle.walk.proofs.scan.entry_valid.Reads as reads
-use Rattle.walk.proofs.scan.entry_valid.Lts as lts
-use Rattle.walk.proofs.scan.valid.Reads as valid-reads
 
 returns : tie.Need-returns
 returns c = rw (eq-eqb _ _ (c .if1 .taken))

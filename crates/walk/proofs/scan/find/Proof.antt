@@ -13,9 +13,6 @@ use Rattle.laws.specs.Searches.{seek-hit, seek-pass}
 use Rattle.walk.specs.Forms.{foundOf}
 use Rattle.walk.proofs.scan.find.Statement.{statement}
 use Rattle.walk.proofs.scan.find.Tie as tie
-use Rattle.walk.proofs.scan.find.Reads as reads
-use Rattle.walk.proofs.scan.find.Lts as lts
-use Rattle.walk.proofs.clump.Clump.read.Reads as read-reads
 
 abbrev Inv-loop : tie.InvT-loop
 Inv-loop img body h₀ h = Tiled img × Walking (λ hs. foundOf (finder hs body)) (length img) (mem img) h (foundOf (finder (clumpsOf img) body))

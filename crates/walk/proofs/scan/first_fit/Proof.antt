@@ -12,10 +12,6 @@ use Rattle.laws.specs.Searches.{seek-hit, seek-pass}
 use Rattle.walk.specs.Forms.{offsetOf}
 use Rattle.walk.proofs.scan.first_fit.Statement.{statement}
 use Rattle.walk.proofs.scan.first_fit.Tie as tie
-use Rattle.walk.proofs.scan.first_fit.Reads as reads
-use Rattle.walk.proofs.scan.first_fit.Lts as lts
-use Rattle.walk.proofs.clump.Clump.read.Reads as read-reads
-use Rattle.walk.proofs.scan.suits.Reads as suits-reads
 
 abbrev Inv-loop : tie.InvT-loop
 Inv-loop img size h₀ h = Tiled img × Walking (λ hs. offsetOf (length img) (seek (fits (needOf size)) hs)) (length img) (mem img) h (offsetOf (length img) (seek (fits (needOf size)) (clumpsOf img)))

@@ -3,9 +3,6 @@ use borrow.Author.Tests.{eq-eqb, ne-eqb}
 use borrow.Author.Needs.{needs}
 use Rattle.walk.proofs.scan.holds.Statement.{statement}
 use Rattle.walk.proofs.scan.holds.Tie as tie
-use Rattle.walk.proofs.scan.holds.Reads as reads
-use Rattle.walk.proofs.scan.holds.Lts as lts
-use Rattle.walk.proofs.scan.word_lies.Reads as word-lies-reads
 
 returns : tie.Need-returns
 returns c = rw (eq-eqb _ _ (c .if1 .taken))

@@ -10,10 +10,6 @@ use Rattle.laws.specs.Searches.{any-hit, any-pass}
 use Rattle.walk.specs.Forms.{holdsWord}
 use Rattle.walk.proofs.scan.in_body.Statement.{statement}
 use Rattle.walk.proofs.scan.in_body.Tie as tie
-use Rattle.walk.proofs.scan.in_body.Reads as reads
-use Rattle.walk.proofs.scan.in_body.Lts as lts
-use Rattle.walk.proofs.clump.Clump.read.Reads as read-reads
-use Rattle.walk.proofs.scan.holds.Reads as holds-reads
 
 abbrev Inv-loop : tie.InvT-loop
 Inv-loop img t h₀ h = Tiled img × Walking (any (holdsWord t)) (length img) (mem img) h (any (holdsWord t) (clumpsOf img))

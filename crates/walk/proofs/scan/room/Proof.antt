@@ -3,8 +3,6 @@ use Rattle.walk.specs.Scans.{need-small, need-room}
 use borrow.Author.Needs.{needs}
 use Rattle.walk.proofs.scan.room.Statement.{statement}
 use Rattle.walk.proofs.scan.room.Tie as tie
-use Rattle.walk.proofs.scan.room.Reads as reads
-use Rattle.walk.proofs.scan.room.Lts as lts
 
 returns : tie.Need-returns
 returns c = need-small _ _ (c .if1 .taken)

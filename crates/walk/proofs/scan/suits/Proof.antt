@@ -3,9 +3,6 @@ use borrow.Author.Tests.{eq-eqb, ne-eqb}
 use borrow.Author.Needs.{needs}
 use Rattle.walk.proofs.scan.suits.Statement.{statement}
 use Rattle.walk.proofs.scan.suits.Tie as tie
-use Rattle.walk.proofs.scan.suits.Reads as reads
-use Rattle.walk.proofs.scan.suits.Lts as lts
-use Rattle.walk.proofs.scan.room.Reads as room-reads
 
 room-requires : tie.Need-room-requires
 room-requires c κs = search needs

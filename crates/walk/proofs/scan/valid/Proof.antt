@@ -5,10 +5,6 @@ use Rattle.rules.specs.Sound.{isValid}
 use borrow.Author.Needs.{needs}
 use Rattle.walk.proofs.scan.valid.Statement.{statement}
 use Rattle.walk.proofs.scan.valid.Tie as tie
-use Rattle.walk.proofs.scan.valid.Reads as reads
-use Rattle.walk.proofs.scan.valid.Lts as lts
-use Rattle.walk.proofs.scan.in_body.Reads as in-body-reads
-use Rattle.walk.proofs.scan.word_lies.Reads as word-lies-reads
 
 returns : tie.Need-returns
 unfolding isValid

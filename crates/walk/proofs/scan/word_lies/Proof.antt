@@ -3,8 +3,6 @@ use Rattle.walk.specs.Scans.{lies-below, lies-above, lies-between}
 use borrow.Author.Needs.{needs}
 use Rattle.walk.proofs.scan.word_lies.Statement.{statement}
 use Rattle.walk.proofs.scan.word_lies.Tie as tie
-use Rattle.walk.proofs.scan.word_lies.Reads as reads
-use Rattle.walk.proofs.scan.word_lies.Lts as lts
 
 returns : tie.Need-returns
 returns c = lies-below _ _ _ (c .if1 .taken)

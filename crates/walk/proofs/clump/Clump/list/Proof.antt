@@ -2,9 +2,6 @@
 use borrow.Author.Needs.{needs}
 use Rattle.walk.proofs.clump.Clump.list.Statement.{statement}
 use Rattle.walk.proofs.clump.Clump.list.Tie as tie
-use Rattle.walk.proofs.clump.Clump.list.Reads as reads
-use Rattle.walk.proofs.clump.Clump.list.Lts as lts
-use Rattle.word.proofs.get.Reads as get-reads
 
 add-get : tie.Need-add-get
 add-get c = search needs

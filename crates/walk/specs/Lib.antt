@@ -1,7 +1,3 @@
--- What the contracts of `walk` cite beside the rules, and the laws of its loops.
+-- What the contracts of `walk` cite beside the rules, and the laws of its searches.
 pub mod Forms
-pub mod Pool
 pub mod Scans
-pub mod Slots
-pub mod Judging
-pub mod Checking

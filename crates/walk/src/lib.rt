@@ -1,8 +1,166 @@
-// Reading a lent image, whatever bytes stand there: is it a pool, is it sound, what do its clumps hold.
-// Nothing here stores. `pages`, `judge` and `check` ask nothing of the image; `scan` asks that the clumps tile, as they do in every
-// image that `judge` finds sound.
-pub mod check;
-pub mod clump;
-pub mod judge;
-pub mod pages;
-pub mod scan;
+// Searches over the clumps of an image. Each asks that the clumps tile, as they do in every image that is judged sound: it may be
+// called once `judge` has found no fault.
+ghost use mathlib.Core.Path.{_≡_};
+ghost use mathlib.Core.Bool.{_||_};
+ghost use Prim.Native.Nat.{_+_, _%_, _≤_, _<_};
+ghost use lib.ListN.{length};
+ghost use lib.Dec.{eqb, leb};
+ghost use Rattle.rules.specs.Lists.{seek, any};
+ghost use Rattle.rules.specs.Words.{mem, wordBytes, wordValues};
+ghost use Rattle.rules.specs.Clumps.{head, headerBytes, isLive, bodyOf, endOf};
+ghost use Rattle.rules.specs.Sound.{lies, isValid, allValid};
+ghost use Rattle.rules.specs.Stores.{needOf, fits};
+ghost use Rattle.rules.specs.Requests.{finder};
+ghost use Rattle.rules.specs.Reading.{clumpsOf, Tiled};
+ghost use Rattle.page.specs.Forms.{headOf};
+ghost use Rattle.walk.specs.Forms.{foundOf, offsetOf, holdsWord};
+use page::CLUMPS_AT;
+use page::STATIC_AT;
+use page::STATIC_END;
+use page::clump::Clump;
+
+// The clump that has its body at an offset, by its header's offset.
+pub enum Found {
+    At(usize),
+    Nothing,
+}
+
+pub fn find(img: &[u8], body: u64) -> Found
+    requires { ⌜ Tiled (now img) ⌝ }
+    ensures { λ r. ⌜ r ≡ foundOf (finder (clumpsOf (now (img .entry))) body) ⌝ }
+{
+    let mut h: usize = CLUMPS_AT;
+    loop {
+        if img.len() <= h {
+            return Found::Nothing;
+        }
+        if h as u64 + Clump::HEADER == body {
+            return Found::At(h);
+        }
+        let c = Clump::read(img, h);
+        h += c.nbytes as usize;
+    }
+}
+
+// Whether need, which may lie past 64 bits, is at most nbytes: it is never computed.
+fn room(nbytes: u64, size: u64) -> bool
+    ensures { λ r. ⌜ r ≡ leb (needOf size) nbytes ⌝ }
+{
+    if nbytes < Clump::HEADER {
+        return false;
+    }
+    size <= (nbytes - Clump::HEADER) / 64 * 64
+}
+
+fn suits(c: Clump, size: u64) -> bool
+    ensures { λ r. ⌜ r ≡ fits (needOf size) (headOf 0 c) ⌝ }
+{
+    if c.state == Clump::FREE {
+        return room(c.nbytes, size);
+    }
+    false
+}
+
+// "The scan stops at the first FREE clump with nbytes at least need": its header's offset, or the image's length as an end mark.
+pub fn first_fit(img: &[u8], size: u64) -> usize
+    requires { ⌜ Tiled (now img) ⌝ }
+    ensures { λ r. ⌜ r ≡ offsetOf (length (now (img .entry))) (seek (fits (needOf size)) (clumpsOf (now (img .entry)))) ⌝ }
+{
+    let mut h: usize = CLUMPS_AT;
+    let at = loop {
+        if img.len() <= h {
+            break img.len();
+        }
+        let c = Clump::read(img, h);
+        if suits(c, size) {
+            break h;
+        }
+        h += c.nbytes as usize;
+    };
+    at
+}
+
+// Whether the word at t lies in a up to b. No sum is made of t, which may be any number.
+pub fn word_lies(a: u64, b: u64, t: u64) -> bool
+    ensures { λ r. ⌜ r ≡ lies a b t ⌝ }
+{
+    if t < a {
+        return false;
+    }
+    if b <= t {
+        return false;
+    }
+    8 <= b - t
+}
+
+// Whether the word at t lies in the body of the clump at h, and the clump is live.
+fn holds(c: Clump, h: usize, t: u64) -> bool
+    requires { ⌜ h + c .nbytes < wordValues ⌝ }
+    requires { ⌜ h + headerBytes < wordValues ⌝ }
+    ensures { λ r. ⌜ r ≡ holdsWord t (headOf h c) ⌝ }
+{
+    if c.state == Clump::FREE {
+        return false;
+    }
+    word_lies(h as u64 + Clump::HEADER, h as u64 + c.nbytes, t)
+}
+
+fn in_body(img: &[u8], t: u64) -> bool
+    requires { ⌜ Tiled (now img) ⌝ }
+    ensures { λ r. ⌜ r ≡ any (holdsWord t) (clumpsOf (now (img .entry))) ⌝ }
+{
+    let mut h: usize = CLUMPS_AT;
+    loop {
+        if img.len() <= h {
+            return false;
+        }
+        let c = Clump::read(img, h);
+        if holds(c, h, t) {
+            return true;
+        }
+        h += c.nbytes as usize;
+    }
+}
+
+// Whether a target is valid now.
+pub fn valid(img: &[u8], t: u64) -> bool
+    requires { ⌜ Tiled (now img) ⌝ }
+    ensures { λ r. ⌜ r ≡ isValid (clumpsOf (now (img .entry))) t ⌝ }
+{
+    if t % 8 != 0 {
+        return false;
+    }
+    if word_lies(STATIC_AT, STATIC_END, t) {
+        return true;
+    }
+    in_body(img, t)
+}
+
+// Whether a target is valid now, or its entry is empty.
+fn entry_valid(img: &[u8], t: u64) -> bool
+    requires { ⌜ Tiled (now img) ⌝ }
+    ensures { λ r. ⌜ r ≡ (eqb t 0 || isValid (clumpsOf (now (img .entry))) t) ⌝ }
+{
+    if t == 0 {
+        return true;
+    }
+    valid(img, t)
+}
+
+// Whether every used target of the clump at h is valid now.
+pub fn all_valid(img: &[u8], h: usize) -> bool
+    requires { ⌜ Tiled (now img) ⌝ }
+    requires { ⌜ h + headerBytes ≤ length (now img) ⌝ }
+    requires { ⌜ h % wordBytes ≡ 0 ⌝ }
+    ensures { λ r. ⌜ r ≡ allValid (mem (now (img .entry))) (clumpsOf (now (img .entry))) (head (mem (now (img .entry))) h) ⌝ }
+{
+    let l = Clump::list(img, h);
+    let mut i: usize = 0;
+    while i < 3 {
+        if !entry_valid(img, l[i][0]) {
+            return false;
+        }
+        i += 1;
+    }
+    true
+}

@@ -1,0 +1,62 @@
+-- `first_pending`: a walk that asks each clump for its state. Assumes nothing.
+use Prim.Native.Nat.{_-_}
+use lib.ListN.{length}
+use native.Mathlib.Omega.{arith}
+use Rattle.rules.specs.Words.{mem}
+use Rattle.rules.specs.Reading.{clumpsOf, Tiled}
+use Rattle.laws.specs.Walking.{Walking, walking-start, walking-end, walking-hit, walking-move, walking-inside}
+use mathlib.Core.Path.{ap}
+use Rattle.rules.specs.Lists.{seek}
+use Rattle.rules.specs.Clumps.{isPending}
+use Rattle.laws.specs.Searches.{seek-hit, seek-pass}
+use Rattle.walk.specs.Forms.{offsetOf}
+use Rattle.judge.proofs.first_pending.Statement.{statement}
+use Rattle.judge.proofs.first_pending.Tie as tie
+
+abbrev Inv-loop : tie.InvT-loop
+Inv-loop img h₀ h = Tiled img × Walking (λ hs. offsetOf (length img) (seek isPending hs)) (length img) (mem img) h (offsetOf (length img) (seek isPending (clumpsOf img)))
+
+abbrev μ-loop : tie.MeasureT-loop
+μ-loop img h₀ h = length img - h
+
+loop-holds : tie.Need-loop-holds Inv-loop μ-loop
+loop-holds c = (c .before .pre, walking-start (λ hs. offsetOf _ (seek isPending hs)) _ _)
+
+returns : tie.Need-returns Inv-loop μ-loop
+unfolding seek
+returns c = walking-end (c .before .loop .inv .1) (c .if1 .taken)
+
+read-requires : tie.Need-read-requires Inv-loop μ-loop
+read-requires c κs = let i = walking-inside (c .before .loop .inv .1) (c .if1 .left) (c .before .loop .inv .0) in omega arith
+
+pending-requires : tie.Need-pending-requires Inv-loop μ-loop
+pending-requires c κs = tt
+
+returns-2 : tie.Need-returns-2 Inv-loop μ-loop
+returns-2 c = walking-hit (c .before .before .before .before .loop .inv .1) (c .before .before .before .if1 .left) _ (λ t. ap (offsetOf _) (seek-hit _ _ t (cc)))
+
+add-h : tie.Need-add-h Inv-loop μ-loop
+add-h c = let i = walking-inside (c .before .before .before .before .loop .inv .1) (c .before .before .before .if1 .left) (c .before .before .before .before .loop .inv .0) in omega (arith, c .before .before .read .ensures .0)
+
+loop-less : tie.Need-loop-less Inv-loop μ-loop
+loop-less c = let i = walking-inside (c .before .before .before .before .loop .inv .1) (c .before .before .before .if1 .left) (c .before .before .before .before .loop .inv .0) in omega (arith, c .before .before .read .ensures .0)
+
+loop-again : tie.Need-loop-again Inv-loop μ-loop
+loop-again c = let i = walking-inside (c .before .before .before .before .loop .inv .1) (c .before .before .before .if1 .left) (c .before .before .before .before .loop .inv .0) in
+    rw (c .before .before .read .ensures .0)
+    (c .before .before .before .before .loop .inv .0, walking-move (c .before .before .before .before .loop .inv .1) (c .before .before .before .if1 .left) (omega arith) (i .whole) _ (λ t. ap (offsetOf _) (seek-pass _ _ t (cc))))
+
+pub first-pending-spec : {M : Type 1} → statement M
+first-pending-spec =
+    tie.close
+    (tie.spec
+    Inv-loop
+    μ-loop
+    loop-holds
+    returns
+    read-requires
+    pending-requires
+    returns-2
+    add-h
+    loop-less
+    loop-again)

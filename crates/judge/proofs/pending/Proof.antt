@@ -1,0 +1,13 @@
+-- `pending`: ACTIVATING or FREEING, one after the other. Assumes nothing.
+use borrow.Author.Tests.{eq-eqb, ne-eqb}
+use Rattle.judge.proofs.pending.Statement.{statement}
+use Rattle.judge.proofs.pending.Tie as tie
+
+returns : tie.Need-returns
+returns c = rw (eq-eqb _ _ (c .if1 .taken))
+
+returns-2 : tie.Need-returns-2
+returns-2 c = rw (ne-eqb _ _ (c .if1 .left))
+
+pub pending-spec : {M : Type 1} → statement M
+pending-spec = tie.close (tie.spec returns returns-2)

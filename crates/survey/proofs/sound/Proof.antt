@@ -1,0 +1,34 @@
+-- `sound`: a law for each way out. Assumes nothing.
+use mathlib.Core.Path.{sym, _∙_}
+use borrow.Author.Tests.{not-true, not-false}
+use Rattle.judge.specs.Judging.{judged-sound}
+use Rattle.survey.specs.Checking.{sound-no-pool, sound-fault, sound-done}
+use borrow.Author.Needs.{needs}
+use Rattle.survey.proofs.sound.Statement.{statement}
+use Rattle.survey.proofs.sound.Tie as tie
+
+is-pool-requires : tie.Need-is-pool-requires
+is-pool-requires c κs = search needs
+
+returns : tie.Need-returns
+returns c = sound-no-pool _ _ (sym (c .before .is-pool .ensures) ∙ not-true _ (c .if1 .taken))
+
+judge-requires : tie.Need-judge-requires
+judge-requires c κs = search needs
+
+enum-known-j : tie.Need-enum-known-j
+enum-known-j c = search needs
+
+enum-told : tie.Need-enum-told
+enum-told c = search needs
+
+returns-2 : tie.Need-returns-2
+returns-2 c = sound-done _ _ (sym (c .before .before .before .before .is-pool .ensures) ∙ not-false _ (c .before .before .before .if1 .left)) (judged-sound _ (sym (c .enum-told .given .1) ∙ c .before .before .judge .ensures))
+
+returns-3 : tie.Need-returns-3
+returns-3 c = sound-fault _ _ (sym (c .before .before .before .before .before .is-pool .ensures) ∙ not-false _ (c .before .before .before .before .if1 .left)) _ _ (sym (c .before .j .given .1) ∙ c .before .before .before .judge .ensures)
+
+pub sound-spec : {M : Type 1} → statement M
+sound-spec =
+    tie.close
+    (tie.spec is-pool-requires returns judge-requires enum-known-j enum-told returns-2 returns-3)

@@ -1,0 +1,2 @@
+-- What the contracts of `survey` cite beside the rules, and the laws of its tests and totals.
+pub mod Checking

@@ -1,0 +1,14 @@
+-- `finish`: by the cut. Assumes nothing.
+use Rattle.steps.proofs.finish.Statement.{statement}
+use Rattle.steps.proofs.finish.Tie as tie
+use Rattle.steps.proofs.finish.Reads as reads
+use Rattle.steps.proofs.finish.Lts as lts
+
+returns : tie.Need-returns
+returns c = rw (c .if1 .taken)
+
+returns-2 : tie.Need-returns-2
+returns-2 c = rw (c .if1 .left)
+
+pub finish-spec : {M : Type 1} → statement M
+finish-spec = tie.close (tie.spec returns returns-2)

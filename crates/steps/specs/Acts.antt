@@ -1,0 +1,83 @@
+-- What a request, or the part of one behind its first tests, does of a verdict: `Acts`. A refusal acts by leaving the image alone,
+-- a run of stores by what `Ran` says; the whole request then `Does`. Assumes nothing.
+use Prim.Native.Nat.{ℕ}
+use mathlib.Core.Path.{_≡_, refl, sym, ap, _∙_}
+use mathlib.Core.Bool.{Bool, true, false, not}
+use mathlib.Core.Option.{Option, some, none}
+use mathlib.Core.List.{List, []}
+use native.Mathlib.Omega.{arith}
+use lib.ListN.{length, take}
+use lib.Seq.{take-nil}
+use borrow.Author.Tests.{le-ltb}
+use Rattle.rules.specs.declared.Answer.{Answer}
+use Rattle.rules.specs.declared.Request.{Request}
+use Rattle.rules.specs.Words.{Image, Mem, Store, mem, carry}
+use Rattle.rules.specs.Pages.{isPool}
+use Rattle.rules.specs.Clumps.{walk}
+use Rattle.rules.specs.Sound.{Fault, judge, unsettled}
+use Rattle.rules.specs.Answers.{Verdict, refused, granted, refuse, test, testFault, notPool, notSettled, ifSound, ifSettled, storesOf, answerAt, answerOf}
+use Rattle.rules.specs.Requests.{verdictOn, Does}
+use Rattle.word.specs.declared.Power.{Power}
+use Rattle.word.specs.Runs.{full, Ran, ran-answer}
+
+abbrev pub answerIs : ℕ → ℕ → ℕ → Answer
+answerIs a p f = record { answer = a; place = p; fault = f; stores = 0 }
+
+-- from the image before, under a fuse, the verdict v leads to the image x and the answer r
+pub record Acts (before : Image) (v : Verdict) (fuse : ℕ) (x : Image) (r : Answer) : Type 0 where
+  pub answered : r ≡ answerOf fuse v
+  pub stored : x ≡ carry before (take fuse (storesOf v))
+
+pub acts-does : {img x : Image} {q : Request} {fuse : ℕ} {r : Answer} (v : Verdict) → verdictOn img q ≡ v → Acts img v fuse x r → Does img q fuse x r
+acts-does v e a = record { answered = rw e (a .answered); stored = rw e (a .stored) }
+
+-- the verdict may be put another way
+pub acts-same : {img x : Image} {fuse : ℕ} {r : Answer} (v w : Verdict) → w ≡ v → Acts img v fuse x r → Acts img w fuse x r
+acts-same v w e a = record { answered = rw e (a .answered); stored = rw e (a .stored) }
+
+kept : (img : Image) (fuse : ℕ) → img ≡ carry img (take fuse [])
+unfolding carry
+kept img fuse = rw (take-nil fuse)
+
+pub acts-refused : (img : Image) (a p f fuse : ℕ) → Acts img (refused a p f) fuse img (answerIs a p f)
+unfolding answerOf
+acts-refused img a p f fuse = record { answered = refl; stored = kept img fuse }
+
+pub acts-ran :
+    {img x : Image} {q : Power} {st : List Store} {r : Answer} (fuse place : ℕ)
+    → Ran img (full fuse) st x q → r ≡ answerAt (q .cut) place (q .made) → Acts img (granted place st) fuse x r
+acts-ran fuse place s e = record { answered = e ∙ ran-answer fuse place s; stored = s .image }
+
+granted-none : (fuse : ℕ) → answerIs 0 0 0 ≡ answerOf fuse (granted 0 [])
+unfolding answerOf
+granted-none fuse = rw (le-ltb fuse 0 (omega arith), take-nil fuse)
+
+-- behind the tests 1 and 2
+module _ (img : Image) (r : Answer) (e : (fuse : ℕ) → r ≡ answerOf fuse (ifSound (length img) (mem img) (granted 0 []))) where
+  pub unsound-acts : (r .answer ≡ 0 → ⊥) → (v : Verdict) (fuse : ℕ) → Acts img (ifSound (length img) (mem img) v) fuse img r
+  unfolding ifSound
+  unsound-acts z v fuse = go (isPool (length img) (mem img)) (judge (length img) (mem img)) (e fuse)
+    where
+      go :
+          (t : Bool) (o : Option Fault)
+          → r ≡ answerOf fuse (test (not t) notPool (testFault o (granted 0 [])))
+          → Acts img (test (not t) notPool (testFault o v)) fuse img r
+      go true none f = absurd (z (ap (λ (a : Answer). a .answer) (f ∙ sym (granted-none fuse))))
+      go true (some x) f = record { answered = f; stored = kept img fuse }
+      go false o f = record { answered = f; stored = kept img fuse }
+
+-- behind the tests 1, 2 and 3
+module _ (img : Image) (r : Answer) (e : (fuse : ℕ) → r ≡ answerOf fuse (ifSettled (length img) (mem img) (granted 0 []))) where
+  pub unsettled-acts : (r .answer ≡ 0 → ⊥) → (v : Verdict) (fuse : ℕ) → Acts img (ifSettled (length img) (mem img) v) fuse img r
+  unfolding ifSettled ifSound
+  unsettled-acts z v fuse =
+      go (isPool (length img) (mem img)) (judge (length img) (mem img)) (unsettled (walk (length img) (mem img))) (e fuse)
+    where
+      go :
+          (t : Bool) (o : Option Fault) (u : Bool)
+          → r ≡ answerOf fuse (test (not t) notPool (testFault o (test u notSettled (granted 0 []))))
+          → Acts img (test (not t) notPool (testFault o (test u notSettled v))) fuse img r
+      go true none true f = record { answered = f; stored = kept img fuse }
+      go true none false f = absurd (z (ap (λ (a : Answer). a .answer) (f ∙ sym (granted-none fuse))))
+      go true (some x) u f = record { answered = f; stored = kept img fuse }
+      go false o u f = record { answered = f; stored = kept img fuse }

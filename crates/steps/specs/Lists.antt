@@ -1,0 +1,139 @@
+-- The stores of an on-list that was read: those that carry it out and those that empty it, and that they are the rules'.
+-- Assumes nothing.
+use Prim.Native.Nat.{ℕ, zero, suc, _+_, _*_, _%_, _<_, _≤_}
+use mathlib.Core.Path.{_≡_, refl, sym, ap, ap₂, _∙_}
+use mathlib.Core.Bool.{Bool, true, false, cond, not}
+use mathlib.Core.List.{List, [], _∷_, _++_, map, append-assoc, append-nil}
+use native.Mathlib.Omega.{arith}
+use native.Mathlib.Numerals.{add-one}
+use lib.Dec.{eqb}
+use lib.ListN.{length, getD, take}
+use borrow.Author.Tests.{eq-eqb, ne-eqb}
+use Rattle.rules.specs.Lists.{those}
+use Rattle.rules.specs.Words.{Mem, Store, store, wordBytes, zeros}
+use Rattle.rules.specs.Clumps.{isUsed, usedSlots, valueAt, entry, entries}
+use Rattle.rules.specs.Stores.{emptying}
+use Rattle.page.specs.Forms.{listAt}
+
+-- target and value of an entry
+abbrev pub targetOf : List ℕ → ℕ
+targetOf e = getD e 0 0
+
+abbrev pub valueOf : List ℕ → ℕ
+valueOf e = getD e 1 0
+
+unfoldable pub assignsOf : List (List ℕ) → List Store
+assignsOf [] = []
+assignsOf (e ∷ es) = cond (eqb (targetOf e) 0) (assignsOf es) (store (targetOf e) (valueOf e) ∷ assignsOf es)
+
+-- the list's first target word stands at s
+unfoldable pub emptiesOf : ℕ → List (List ℕ) → List Store
+emptiesOf s [] = []
+emptiesOf s (e ∷ es) = cond (eqb (targetOf e) 0) (emptiesOf (s + 16) es) (store s 0 ∷ emptiesOf (s + 16) es)
+
+-- the used targets of a list lie in an image of n bytes, at offsets divisible by 8
+abbrev pub InImage : ℕ → List (List ℕ) → Type 0
+InImage n l = (i : ℕ) → i < 3 → (targetOf (getD l i []) ≡ 0 → ⊥) → (targetOf (getD l i []) % wordBytes ≡ 0) × (targetOf (getD l i []) + wordBytes ≤ n)
+
+-- they are the rules' stores, of the clump whose list was read: one entry after the other
+module _ (m : Mem) (s : ℕ) (sl : List ℕ) (t v : ℕ) (es : List (List ℕ)) (e : t ≡ m s) where
+  assigns-cons : v ≡ m (valueAt s) → assignsOf es ≡ map (entry m) (those (isUsed m) sl) → assignsOf ((t ∷ v ∷ []) ∷ es) ≡ map (entry m) (those (isUsed m) (s ∷ sl))
+  unfolding assignsOf those
+  assigns-cons f h = rw (e, f) (go (eqb (m s) 0))
+    where
+      go :
+          (b : Bool)
+          → cond b (assignsOf es) (entry m s ∷ assignsOf es) ≡ map (entry m) (cond (not b) (s ∷ those (isUsed m) sl) (those (isUsed m) sl))
+      go true = h
+      go false = ap (λ (st : List Store). entry m s ∷ st) h
+
+  empties-cons : (r : ℕ) → r ≡ s → emptiesOf (r + 16) es ≡ emptying (those (isUsed m) sl) → emptiesOf r ((t ∷ v ∷ []) ∷ es) ≡ emptying (those (isUsed m) (s ∷ sl))
+  unfolding emptiesOf those
+  empties-cons r f h = rw e (go (eqb (m s) 0))
+    where
+      go :
+          (b : Bool)
+          → cond b (emptiesOf (r + 16) es) (store r 0 ∷ emptiesOf (r + 16) es) ≡ emptying (cond (not b) (s ∷ those (isUsed m) sl) (those (isUsed m) sl))
+      go true = h
+      go false = ap₂ (λ (x : ℕ) (st : List Store). store x 0 ∷ st) f h
+
+pub assigns-are : (m : Mem) (a : ℕ) → assignsOf (listAt m a) ≡ entries m a
+unfolding assignsOf those
+assigns-are m a =
+    let v : (s o : ℕ) → o ≡ valueAt s → m o ≡ m (valueAt s) = λ s o e. ap m e in
+    let e₃ = assigns-cons m (a + 48) [] (m (a + 48)) (m (a + 56)) [] refl (v (a + 48) (a + 56) (omega arith)) refl in
+    let e₂ = assigns-cons m (a + 32) ((a + 48) ∷ []) (m (a + 32)) (m (a + 40)) ((m (a + 48) ∷ m (a + 56) ∷ []) ∷ []) refl (v (a + 32) (a + 40) (omega arith)) e₃ in
+    assigns-cons m (a + 16) ((a + 32) ∷ (a + 48) ∷ []) (m (a + 16)) (m (a + 24)) ((m (a + 32) ∷ m (a + 40) ∷ []) ∷ (m (a + 48) ∷ m (a + 56) ∷ []) ∷ []) refl (v (a + 16) (a + 24) (omega arith)) e₂
+
+pub empties-are : (m : Mem) (a : ℕ) → emptiesOf (a + 16) (listAt m a) ≡ emptying (usedSlots m a)
+unfolding emptiesOf those
+empties-are m a =
+    let e₃ = empties-cons m (a + 48) [] (m (a + 48)) (m (a + 56)) [] refl (a + 16 + 16 + 16) (omega arith) refl in
+    let e₂ = empties-cons m (a + 32) ((a + 48) ∷ []) (m (a + 32)) (m (a + 40)) ((m (a + 48) ∷ m (a + 56) ∷ []) ∷ []) refl (a + 16 + 16) (omega arith) e₃ in
+    empties-cons m (a + 16) ((a + 32) ∷ (a + 48) ∷ []) (m (a + 16)) (m (a + 24)) ((m (a + 32) ∷ m (a + 40) ∷ []) ∷ (m (a + 48) ∷ m (a + 56) ∷ []) ∷ []) refl (a + 16) refl e₂
+
+-- one entry more
+assigns-suc : (l : List (List ℕ)) (i : ℕ) → i < length l → assignsOf (take (suc i) l) ≡ assignsOf (take i l) ++ assignsOf (getD l i [] ∷ [])
+unfolding assignsOf
+assigns-suc [] i h = absurd (omega arith)
+assigns-suc (e ∷ es) zero h = refl
+assigns-suc (e ∷ es) (suc i) h = go (eqb (targetOf e) 0) (assigns-suc es i (omega arith))
+  where
+    go :
+        (b : Bool)
+        → assignsOf (take (suc i) es) ≡ assignsOf (take i es) ++ assignsOf (getD es i [] ∷ [])
+        → cond b (assignsOf (take (suc i) es)) (store (targetOf e) (valueOf e) ∷ assignsOf (take (suc i) es))
+        ≡ cond b (assignsOf (take i es)) (store (targetOf e) (valueOf e) ∷ assignsOf (take i es)) ++ assignsOf (getD es i [] ∷ [])
+    go true h = h
+    go false h = ap (λ (st : List Store). store (targetOf e) (valueOf e) ∷ st) h
+
+pub assigns-more : (l : List (List ℕ)) (i : ℕ) → i < length l → assignsOf (take (i + 1) l) ≡ assignsOf (take i l) ++ assignsOf (getD l i [] ∷ [])
+assigns-more l i h = rw add-one (assigns-suc l i h)
+
+empties-suc : (l : List (List ℕ)) (s i : ℕ) → i < length l → emptiesOf s (take (suc i) l) ≡ emptiesOf s (take i l) ++ emptiesOf (s + 16 * i) (getD l i [] ∷ [])
+unfolding emptiesOf
+empties-suc [] s i h = absurd (omega arith)
+empties-suc (e ∷ es) s zero h = let z : s + 16 * 0 ≡ s = omega arith in rw z
+empties-suc (e ∷ es) s (suc i) h = go (eqb (targetOf e) 0) (empties-suc es (s + 16) i (omega arith))
+  where
+    shift : s + 16 + 16 * i ≡ s + 16 * suc i
+    shift = omega arith
+
+    go :
+        (b : Bool)
+        → emptiesOf (s + 16) (take (suc i) es) ≡ emptiesOf (s + 16) (take i es) ++ emptiesOf (s + 16 + 16 * i) (getD es i [] ∷ [])
+        → cond b (emptiesOf (s + 16) (take (suc i) es)) (store s 0 ∷ emptiesOf (s + 16) (take (suc i) es))
+        ≡ cond b (emptiesOf (s + 16) (take i es)) (store s 0 ∷ emptiesOf (s + 16) (take i es)) ++ emptiesOf (s + 16 * suc i) (getD es i [] ∷ [])
+    go true h = rw shift at h
+    go false h = ap (λ (st : List Store). store s 0 ∷ st) (rw shift at h)
+
+pub empties-more : (s : ℕ) (l : List (List ℕ)) (i : ℕ) → i < length l → emptiesOf s (take (i + 1) l) ≡ emptiesOf s (take i l) ++ emptiesOf (s + 16 * i) (getD l i [] ∷ [])
+empties-more s l i h = rw add-one (empties-suc l s i h)
+
+-- an entry alone
+pub assign-empty : (e : List ℕ) → targetOf e ≡ 0 → assignsOf (e ∷ []) ≡ []
+unfolding assignsOf
+assign-empty e h = rw (eq-eqb (targetOf e) 0 h)
+
+pub assign-used : (e : List ℕ) → (targetOf e ≡ 0 → ⊥) → assignsOf (e ∷ []) ≡ store (targetOf e) (valueOf e) ∷ []
+unfolding assignsOf
+assign-used e h = rw (ne-eqb (targetOf e) 0 h)
+
+pub empty-empty : (s : ℕ) (e : List ℕ) → targetOf e ≡ 0 → emptiesOf s (e ∷ []) ≡ []
+unfolding emptiesOf
+empty-empty s e h = rw (eq-eqb (targetOf e) 0 h)
+
+pub empty-one : (s : ℕ) (e : List ℕ) → (targetOf e ≡ 0 → ⊥) → emptiesOf s (e ∷ []) ≡ store s 0 ∷ []
+unfolding emptiesOf
+empty-one s e h = rw (ne-eqb (targetOf e) 0 h)
+
+-- one word more
+zeros-suc : (k i : ℕ) → zeros i (suc k) ≡ zeros i k ++ (store (i + wordBytes * k) 0 ∷ [])
+unfolding zeros
+zeros-suc zero i = let z : i + wordBytes * 0 ≡ i = omega arith in rw z
+zeros-suc (suc k) i =
+    let z : i + wordBytes + wordBytes * k ≡ i + wordBytes * suc k = omega arith in
+    ap (λ (st : List Store). store i 0 ∷ st) (rw z at (zeros-suc k (i + wordBytes)))
+
+pub zeros-more : (i k : ℕ) → zeros i (k + 1) ≡ zeros i k ++ (store (i + wordBytes * k) 0 ∷ [])
+zeros-more i k = rw add-one (zeros-suc k i)

@@ -17,6 +17,9 @@ use Rattle.rules.specs.Clumps.{walk}
 use Rattle.rules.specs.Sound.{Fault, judge, unsettled}
 use Rattle.rules.specs.Answers.{Verdict, refused, granted, refuse, test, testFault, notPool, notSettled, ifSound, ifSettled, storesOf, answerAt, answerOf}
 use Rattle.rules.specs.Requests.{verdictOn, Does}
+use Rattle.rules.specs.Reading.{Tiled}
+use Rattle.laws.specs.Walks.{sound-tiles}
+use Rattle.laws.specs.Pools.{Sound, RightLength, pool-length}
 use Rattle.word.specs.declared.Power.{Power}
 use Rattle.word.specs.Runs.{full, Ran, ran-answer}
 
@@ -81,3 +84,50 @@ module _ (img : Image) (r : Answer) (e : (fuse : ℕ) → r ≡ answerOf fuse (i
       go true none false f = absurd (z (ap (λ (a : Answer). a .answer) (f ∙ sym (granted-none fuse))))
       go true (some x) u f = record { answered = f; stored = kept img fuse }
       go false o u f = record { answered = f; stored = kept img fuse }
+
+  -- what answer 0 tells
+  settled : r .answer ≡ 0 → Sound (length img) (mem img) × (unsettled (walk (length img) (mem img)) ≡ false)
+  unfolding ifSettled ifSound answerOf
+  settled z =
+      go (isPool (length img) (mem img)) refl (judge (length img) (mem img)) refl (unsettled (walk (length img) (mem img))) refl (e 0)
+    where
+      go :
+          (t : Bool)
+          → isPool (length img) (mem img) ≡ t
+          → (o : Option Fault)
+          → judge (length img) (mem img) ≡ o
+          → (u : Bool)
+          → unsettled (walk (length img) (mem img)) ≡ u
+          → r ≡ answerOf 0 (test (not t) notPool (testFault o (test u notSettled (granted 0 []))))
+          → Sound (length img) (mem img) × (unsettled (walk (length img) (mem img)) ≡ false)
+      go true p none q false s f = (record { pool = p; sound = q }, s)
+      go true p none q true s f = absurd (omega (arith, ap (λ (a : Answer). a .answer) f))
+      go true p (some x) q u s f = absurd (omega (arith, ap (λ (a : Answer). a .answer) f))
+      go false p o q u s f = absurd (omega (arith, ap (λ (a : Answer). a .answer) f))
+
+  pub settled-sound : r .answer ≡ 0 → Sound (length img) (mem img)
+  settled-sound z = settled z .0
+
+  pub settled-is : r .answer ≡ 0 → (v : Verdict) → ifSettled (length img) (mem img) v ≡ v
+  unfolding ifSettled ifSound
+  settled-is z v = let s = settled z in rw (s .0 .pool, s .0 .sound, s .1)
+
+  pub settled-tiles : r .answer ≡ 0 → Tiled img
+  settled-tiles z =
+      let s = settled-sound z in
+      let l = pool-length (length img) (mem img) (s .pool) in
+      sound-tiles (length img) (mem img) (omega arith) (s .sound)
+
+  pub settled-length : r .answer ≡ 0 → RightLength (length img)
+  settled-length z = pool-length (length img) (mem img) (settled-sound z .pool)
+
+  -- a request that has passed the tests 1, 2 and 3
+  pub passed-does :
+      {x : Image} {q : Request} {fuse : ℕ} {s : Answer} (w v : Verdict)
+      → r .answer ≡ 0 → verdictOn img q ≡ ifSettled (length img) (mem img) w → w ≡ v → Acts img v fuse x s → Does img q fuse x s
+  passed-does w v z e f a = acts-does v (e ∙ settled-is z w ∙ f) a
+
+  pub stopped-does :
+      {q : Request} {fuse : ℕ} (w : Verdict)
+      → (r .answer ≡ 0 → ⊥) → verdictOn img q ≡ ifSettled (length img) (mem img) w → Does img q fuse img r
+  stopped-does {fuse = fuse} w z e = acts-does _ e (unsettled-acts z w fuse)

@@ -1,0 +1,82 @@
+-- `reserve`: a law for each way out. Assumes nothing.
+use native.Mathlib.Omega.{arith}
+use Rattle.rules.specs.Stores.{needOf, fits}
+use Rattle.walk.specs.Scans.{offset-none, offset-some}
+use Rattle.steps.specs.Acts.{settled-length, stopped-does, passed-does, settled-tiles, acts-refused}
+use mathlib.Core.Path.{refl}
+use Rattle.rules.specs.Answers.{refuse, sizeZero, noRoom}
+use Rattle.rules.specs.Requests.{reserve, verdict}
+use Rattle.place.specs.Places.{reserve-zero, reserve-none, reserve-some, fit-found}
+use borrow.Author.Needs.{needs}
+use Rattle.place.proofs.reserve.Statement.{statement}
+use Rattle.place.proofs.reserve.Tie as tie
+use Rattle.place.proofs.reserve.Reads as reads
+use Rattle.place.proofs.reserve.Lts as lts
+use Rattle.place.proofs.reserve_at.Reads as reserve-at-reads
+use Rattle.steps.proofs.refusal.Reads as refusal-reads
+use Rattle.survey.proofs.survey.Reads as survey-reads
+use Rattle.walk.proofs.first_fit.Reads as first-fit-reads
+
+survey-requires : tie.Need-survey-requires
+survey-requires c κs = search needs
+
+same-length : tie.Need-same-length
+same-length c = search needs
+
+returns : tie.Need-returns
+unfolding verdict
+returns c = stopped-does (c .before .before .before .before .before .args .img .now) _ (c .before .before .survey .ensures) (reserve _ _) (c .if1 .taken) refl
+
+refusal-requires : tie.Need-refusal-requires
+refusal-requires c κs = search needs
+
+same-length-2 : tie.Need-same-length-2
+same-length-2 c = search needs
+
+returns-2 : tie.Need-returns-2
+unfolding verdict
+returns-2 c = rw (c .refusal .ensures)
+    (passed-does (c .before .before .before .before .before .before .before .args .img .now) _ (c .before .before .before .before .survey .ensures) (reserve _ _) (refuse sizeZero) (c .before .before .if1 .left) refl (reserve-zero _ _ (c .before .if2 .taken)) (acts-refused _ _ _ _ _))
+
+first-fit-requires : tie.Need-first-fit-requires
+first-fit-requires c κs = settled-tiles (c .before .before .before .before .before .before .before .args .img .now) _ (c .before .before .before .before .survey .ensures) (c .before .before .if1 .left)
+
+refusal-requires-2 : tie.Need-refusal-requires-2
+refusal-requires-2 c κs = search needs
+
+same-length-3 : tie.Need-same-length-3
+same-length-3 c = search needs
+
+returns-3 : tie.Need-returns-3
+unfolding verdict
+returns-3 c = rw (c .refusal2 .ensures)
+    (passed-does (c .before .before .before .before .before .before .before .before .before .before .args .img .now) _ (c .before .before .before .before .before .before .before .survey .ensures) (reserve _ _) (refuse noRoom) (c .before .before .before .before .before .if1 .left) refl (reserve-none _ _ (c .before .before .before .before .if2 .left) (offset-none _ _ (fits (needOf (c .before .before .before .before .before .before .before .before .before .before .args .size))) (settled-tiles (c .before .before .before .before .before .before .before .before .before .before .args .img .now) _ (c .before .before .before .before .before .before .before .survey .ensures) (c .before .before .before .before .before .if1 .left)) _ (c .before .before .first-fit .ensures) (c .before .if3 .taken))) (acts-refused _ _ _ _ _))
+
+reserve-at-requires : tie.Need-reserve-at-requires
+reserve-at-requires c κs = let l = settled-length (c .before .before .before .before .before .before .before .before .before .before .args .img .now) _ (c .before .before .before .before .before .before .before .survey .ensures) (c .before .before .before .before .before .if1 .left) in
+    fit-found _ _ _ _ (omega arith) (settled-tiles (c .before .before .before .before .before .before .before .before .before .before .args .img .now) _ (c .before .before .before .before .before .before .before .survey .ensures) (c .before .before .before .before .before .if1 .left)) (c .before .before .first-fit .ensures) (c .before .if3 .left)
+
+same-length-4 : tie.Need-same-length-4
+same-length-4 c = search needs
+
+returns-4 : tie.Need-returns-4
+unfolding verdict
+returns-4 c = passed-does (c .before .before .before .before .before .before .before .before .before .before .before .before .before .args .img .now) _ (c .before .before .before .before .before .before .before .before .before .before .survey .ensures) (reserve _ _) _ (c .before .before .before .before .before .before .before .before .if1 .left) refl (reserve-some _ _ (c .before .before .before .before .before .before .before .if2 .left) _ (offset-some _ _ (fits (needOf (c .before .before .before .before .before .before .before .before .before .before .before .before .before .args .size))) (settled-tiles (c .before .before .before .before .before .before .before .before .before .before .before .before .before .args .img .now) _ (c .before .before .before .before .before .before .before .before .before .before .survey .ensures) (c .before .before .before .before .before .before .before .before .if1 .left)) _ (c .before .before .before .before .before .first-fit .ensures) (c .before .before .before .before .if3 .left))) (c .before .before .reserve-at .ensures)
+
+pub reserve-spec : {M : Type 1} → statement M
+reserve-spec =
+    tie.close
+    (tie.spec
+    survey-requires
+    same-length
+    returns
+    refusal-requires
+    same-length-2
+    returns-2
+    first-fit-requires
+    refusal-requires-2
+    same-length-3
+    returns-3
+    reserve-at-requires
+    same-length-4
+    returns-4)

@@ -1,0 +1,92 @@
+-- `reserve_at`: split where the rest is large enough, else whole. Assumes nothing.
+use native.Mathlib.Omega.{arith}
+use mathlib.Core.Path.{_≡_}
+use Rattle.rules.specs.Words.{mem}
+use Rattle.place.specs.Places.{need-even, need-least, split-acts, whole-acts}
+use borrow.Author.Needs.{needs}
+use Rattle.place.proofs.reserve_at.Statement.{statement}
+use Rattle.place.proofs.reserve_at.Tie as tie
+use Rattle.place.proofs.reserve_at.Reads as reads
+use Rattle.place.proofs.reserve_at.Lts as lts
+use Rattle.place.proofs.need_of.Reads as need-of-reads
+use Rattle.place.proofs.split_off.Reads as split-off-reads
+use Rattle.place.proofs.take_whole.Reads as take-whole-reads
+use Rattle.steps.proofs.finish.Reads as finish-reads
+use Rattle.word.proofs.Power.new.Reads as new-reads
+use Rattle.word.proofs.get.Reads as get-reads
+
+get-requires : tie.Need-get-requires
+get-requires c κs = let d = need-even (c .before .before .args .size) in let g = need-least (c .before .before .args .size) in let i = c .before .before .pre in (omega arith, omega arith)
+
+need-of-requires : tie.Need-need-of-requires
+need-of-requires c κs = search needs
+
+new-requires : tie.Need-new-requires
+new-requires c κs = search needs
+
+sub-if1 : tie.Need-sub-if1
+sub-if1 c = search needs
+
+sub-split-off : tie.Need-sub-split-off
+sub-split-off c = search needs
+
+split-off-requires : tie.Need-split-off-requires
+split-off-requires c κs = let e : c .before .before .before .before .get .result ≡ mem (c .before .before .before .before .before .before .before .args .img .now) (c .before .before .before .before .before .before .before .args .h) = c .before .before .before .before .get .ensures in
+    let k = c .before .before .before .need-of .ensures in
+    let d = need-even (c .before .before .before .before .before .before .before .args .size) in
+    let f = c .before .before .new .ensures in
+    let i = c .before .before .before .before .before .before .before .pre in
+    (omega arith, (omega arith, ((omega arith, omega arith), rw f (omega (arith, c .before .before .before .before .before .before .before .fits .fuse)))))
+
+add-finish : tie.Need-add-finish
+add-finish c = search needs
+
+finish-requires : tie.Need-finish-requires
+finish-requires c κs = search needs
+
+same-length : tie.Need-same-length
+same-length c = search needs
+
+returns : tie.Need-returns
+returns c = split-acts _ _ _ _ _ _ _ (c .before .before .before .before .before .before .new .ensures) (c .before .before .before .before .before .before .before .before .get .ensures) (c .before .before .before .before .before .before .before .need-of .ensures) (c .before .before .before .before .before .if1 .taken) (c .before .before .before .split-off .ensures) (c .finish .ensures)
+
+take-whole-requires : tie.Need-take-whole-requires
+take-whole-requires c κs = let e : c .before .before .before .before .get .result ≡ mem (c .before .before .before .before .before .before .before .args .img .now) (c .before .before .before .before .before .before .before .args .h) = c .before .before .before .before .get .ensures in
+    let k = c .before .before .before .need-of .ensures in
+    let d = need-even (c .before .before .before .before .before .before .before .args .size) in
+    let f = c .before .before .new .ensures in
+    let i = c .before .before .before .before .before .before .before .pre in
+    let g = need-least (c .before .before .before .before .before .before .before .args .size) in
+    (omega arith, (omega arith, rw f (omega (arith, c .before .before .before .before .before .before .before .fits .fuse))))
+
+add-finish-2 : tie.Need-add-finish-2
+add-finish-2 c = search needs
+
+finish-requires-2 : tie.Need-finish-requires-2
+finish-requires-2 c κs = search needs
+
+same-length-2 : tie.Need-same-length-2
+same-length-2 c = search needs
+
+returns-2 : tie.Need-returns-2
+returns-2 c = whole-acts _ _ _ _ _ _ _ (c .before .before .before .before .before .before .new .ensures) (c .before .before .before .before .before .before .before .before .get .ensures) (c .before .before .before .before .before .before .before .need-of .ensures) (c .before .before .before .before .before .if1 .left) (c .before .before .before .take-whole .ensures) (c .finish2 .ensures)
+
+pub reserve-at-spec : {M : Type 1} → statement M
+reserve-at-spec =
+    tie.close
+    (tie.spec
+    get-requires
+    need-of-requires
+    new-requires
+    sub-if1
+    sub-split-off
+    split-off-requires
+    add-finish
+    finish-requires
+    same-length
+    returns
+    take-whole-requires
+    add-finish-2
+    finish-requires-2
+    same-length-2
+    returns-2)

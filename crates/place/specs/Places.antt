@@ -1,0 +1,140 @@
+-- Create's list in two parts, what reserve asks of the clump that was found, and a law for each way out of the two. Assumes nothing.
+use Prim.Native.Nat.{ℕ, _+_, _-_, _*_, _/_, _%_, _<_, _≤_}
+use mathlib.Core.Path.{_≡_, refl, sym, ap, _∙_}
+use mathlib.Core.Bool.{Bool, true, false, cond, not}
+use mathlib.Core.Option.{Option, some, none}
+use mathlib.Core.List.{List, [], _∷_, _++_, append-assoc}
+use native.Mathlib.Omega.{arith}
+use lib.Dec.{eqb, leb}
+use lib.ListN.{length}
+use borrow.Author.Tests.{eq-eqb, ne-eqb, le-leb, lt-leb, leb-true, not-true, not-false}
+use Rattle.rules.specs.declared.Answer.{Answer}
+use Rattle.rules.specs.declared.Request.the-variants.{Create, Reserve}
+use Rattle.rules.specs.Lists.{seek}
+use Rattle.rules.specs.Words.{Image, Mem, Store, mem, store, zeros, wordBytes, wordValues}
+use Rattle.rules.specs.Pages.{pageBytes, staticAt, headerAt, signatureLow, signatureHigh, signatureHighAt, totalAt, paddingAt, paddingWords, clumpsAt, unit, rightLength}
+use Rattle.rules.specs.Clumps.{Head, head, isFree, headerBytes, slots, stateAt, FREE, RESERVED, leastClump, Tiles, walk}
+use Rattle.rules.specs.Answers.{Verdict, granted, refuse, notPool, sizeZero, noRoom, answerAt}
+use Rattle.rules.specs.Stores.{createStores, needOf, fits, emptying, leastRest, reserveStores}
+use Rattle.rules.specs.Requests.{Does, reserve, verdict}
+use Rattle.laws.specs.Searches.{and-both, seek-split}
+use Rattle.laws.specs.Walking.{seek-placed}
+use Rattle.walk.specs.Forms.{offsetOf}
+use Rattle.walk.specs.Scans.{offset-none, offset-some, offset-inside}
+use Rattle.steps.specs.Acts.{Acts, acts-refused, acts-does, acts-ran, answerIs}
+use Rattle.steps.specs.Loops.{ran-as}
+use Rattle.word.specs.declared.Power.{Power}
+use Rattle.word.specs.Runs.{full, Ran, ran-then}
+
+-- create's list, below the padding and from it on
+abbrev pub pageStores : ℕ → List Store
+pageStores n =
+    store headerAt 0
+    ∷ (zeros staticAt (pageBytes / wordBytes) ++ (store signatureHighAt signatureHigh ∷ store totalAt n ∷ []))
+
+abbrev pub clumpStores : ℕ → List Store
+clumpStores n =
+    zeros paddingAt paddingWords
+    ++ (store clumpsAt (n - clumpsAt) ∷ (zeros (clumpsAt + wordBytes) (headerBytes / wordBytes - 1) ++ (store headerAt signatureLow ∷ [])))
+
+pub create-parts : (n : ℕ) → createStores n ≡ pageStores n ++ clumpStores n
+unfolding createStores
+create-parts n = rw append-assoc
+
+-- the clump at h is large enough
+pub record Fit (n : ℕ) (m : Mem) (need h : ℕ) : Type 0 where
+  pub even : h % unit ≡ 0
+  pub enough : need ≤ m h
+  pub room : h + m h ≤ n
+  pub small : n < wordValues
+
+-- reserve, a law for each way out
+module _ (hs : List Head) (size : ℕ) where
+  pub reserve-zero : size ≡ 0 → reserve hs size ≡ refuse sizeZero
+  unfolding reserve
+  reserve-zero e = rw (eq-eqb size 0 e)
+
+  pub reserve-none : (size ≡ 0 → ⊥) → seek (fits (needOf size)) hs ≡ none → reserve hs size ≡ refuse noRoom
+  unfolding reserve
+  reserve-none h e = rw (ne-eqb size 0 h, e)
+
+  pub reserve-some : (size ≡ 0 → ⊥) → (h : Head) → seek (fits (needOf size)) hs ≡ some h → reserve hs size ≡ granted (h .at + headerBytes) (reserveStores (needOf size) h)
+  unfolding reserve
+  reserve-some n h e = rw (ne-eqb size 0 n, e)
+
+-- the clump that first fit finds
+pub fit-found :
+    (n : ℕ) (m : Mem) (size r : ℕ)
+    → n < wordValues → Tiles clumpsAt (walk n m) n → r ≡ offsetOf n (seek (fits (needOf size)) (walk n m)) → r < n → Fit n m (needOf size) r
+fit-found n m size r s t e l =
+    let i = offset-inside n m (fits (needOf size)) t r e l in
+    let p = seek-split (fits (needOf size)) (walk n m) (head m r) (offset-some n m (fits (needOf size)) t r e l) .passes in
+    record { even = i .even; enough = leb-true (needOf size) (m r) (and-both (isFree (head m r)) _ p .1); room = i .room; small = s }
+
+-- need is a multiple of 64, and at least a header and a unit
+pub need-even : (size : ℕ) → needOf size % unit ≡ 0
+unfolding needOf
+need-even size = omega arith
+
+pub need-is : (size : ℕ) → 64 + (size / 64 + (size % 64 + 63) / 64) * 64 ≡ needOf size
+unfolding needOf
+need-is size = omega arith
+
+-- the stores of reserve, split or whole
+pub stores-split :
+    (need : ℕ) (h : Head)
+    → leastRest ≤ h .nbytes - need
+    → reserveStores need h
+    ≡ store (h .at + need) (h .nbytes - need)
+    ∷ store (stateAt (h .at + need)) FREE
+    ∷ (emptying (slots (h .at)) ++ (store (h .at) need ∷ store (stateAt (h .at)) RESERVED ∷ []))
+unfolding reserveStores
+stores-split need h l = rw (le-leb leastRest (h .nbytes - need) l)
+
+pub stores-whole : (need : ℕ) (h : Head) → h .nbytes - need < leastRest → reserveStores need h ≡ emptying (slots (h .at)) ++ (store (stateAt (h .at)) RESERVED ∷ [])
+unfolding reserveStores
+stores-whole need h l = rw (lt-leb leastRest (h .nbytes - need) l)
+
+-- reserve in the clump that was found: with the nbytes n and the need k that the code has, and the power p that it starts from
+module _ (img : Image) (h size fuse n k : ℕ) (p : Power) (fresh : p ≡ full fuse) (size-is : n ≡ mem img h) (need-eq : k ≡ needOf size) where
+  pub split-acts :
+      {x : Image} {q : Power} {r : Answer}
+      → leastRest ≤ n - k
+      → Ran img p (store (h + k) (n - k) ∷ store (stateAt (h + k)) FREE ∷ (emptying (slots h) ++ (store h k ∷ store (stateAt h) RESERVED ∷ []))) x q
+      → r ≡ answerAt (q .cut) (h + headerBytes) (q .made)
+      → Acts img (granted (h + headerBytes) (reserveStores (needOf size) (head (mem img) h))) fuse x r
+  split-acts l s e =
+      rw (stores-split (needOf size) (head (mem img) h) (rw (← size-is, ← need-eq) l), ← size-is, ← need-eq)
+      (acts-ran fuse (h + headerBytes) (rw fresh at s) e)
+
+  pub whole-acts :
+      {x : Image} {q : Power} {r : Answer}
+      → n - k < leastRest
+      → Ran img p (emptying (slots h) ++ (store (stateAt h) RESERVED ∷ [])) x q
+      → r ≡ answerAt (q .cut) (h + headerBytes) (q .made)
+      → Acts img (granted (h + headerBytes) (reserveStores (needOf size) (head (mem img) h))) fuse x r
+  whole-acts l s e =
+      rw (stores-whole (needOf size) (head (mem img) h) (rw (← size-is, ← need-eq) l)) (acts-ran fuse (h + headerBytes) (rw fresh at s) e)
+
+-- create, a law for each way out
+pub create-refused : (img : Image) (b : Bool) (fuse : ℕ) → b ≡ rightLength (length img) → not b ≡ true → Does img Create fuse img (answerIs 1 0 0)
+unfolding verdict
+create-refused img b fuse e t = acts-does (refuse notPool) (rw (sym e ∙ not-true b t)) (acts-refused img 1 0 0 fuse)
+
+pub create-done :
+    {img x y : Image} {p q s : Power} {r : Answer} (b : Bool) (fuse : ℕ)
+    → b ≡ rightLength (length img)
+    → not b ≡ false
+    → p ≡ full fuse
+    → Ran img p (pageStores (length img)) x q
+    → Ran x q (clumpStores (length x)) y s
+    → r ≡ answerAt (s .cut) 0 (s .made)
+    → Does img Create fuse y r
+unfolding verdict
+create-done {img} {s = s} b fuse e t f u v a =
+    acts-does (granted 0 (createStores (length img))) (rw (sym e ∙ not-false b t))
+    (acts-ran {q = s} fuse 0 (ran-as _ _ (create-parts (length img)) (ran-then (rw f at u) (rw (u .long) at v))) a)
+
+pub need-least : (size : ℕ) → 64 ≤ needOf size
+unfolding needOf
+need-least size = omega arith

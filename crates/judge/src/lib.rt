@@ -43,7 +43,8 @@ fn size_bad(img: &[u8], h: usize) -> bool
     (room as u64) < n
 }
 
-fn waits(state: u64) -> bool
+// Whether the list of a clump in that state waits: RESERVED or ACTIVE.
+pub fn waits(state: u64) -> bool
     ensures { λ r. ⌜ r ≡ (eqb state RESERVED || eqb state ACTIVE) ⌝ }
 {
     if state == Clump::RESERVED {
@@ -52,6 +53,7 @@ fn waits(state: u64) -> bool
     state == Clump::ACTIVE
 }
 
+// Whether a clump in that state is unfinished: ACTIVATING or FREEING.
 pub fn pending(state: u64) -> bool
     ensures { λ r. ⌜ r ≡ (eqb state ACTIVATING || eqb state FREEING) ⌝ }
 {

@@ -13,11 +13,11 @@ use Rattle.rules.specs.declared.Answer.{Answer}
 use Rattle.rules.specs.declared.Request.{Request}
 use Rattle.rules.specs.Words.{Image, Mem, Store, mem, carry}
 use Rattle.rules.specs.Pages.{isPool}
-use Rattle.rules.specs.Clumps.{walk}
+use Rattle.rules.specs.Clumps.{Head, walk}
 use Rattle.rules.specs.Sound.{Fault, judge, unsettled}
-use Rattle.rules.specs.Answers.{Verdict, refused, granted, refuse, test, testFault, notPool, notSettled, ifSound, ifSettled, storesOf, answerAt, answerOf}
-use Rattle.rules.specs.Requests.{verdictOn, Does}
-use Rattle.rules.specs.Reading.{Tiled}
+use Rattle.rules.specs.Answers.{Verdict, refused, granted, refuse, noClump, test, testFault, notPool, notSettled, ifSound, ifSettled, storesOf, answerAt, answerOf}
+use Rattle.rules.specs.Requests.{verdictOn, Does, finder, found}
+use Rattle.rules.specs.Reading.{clumpsOf, Tiled}
 use Rattle.laws.specs.Walks.{sound-tiles}
 use Rattle.laws.specs.Pools.{Sound, RightLength, pool-length}
 use Rattle.word.specs.declared.Power.{Power}
@@ -131,3 +131,11 @@ module _ (img : Image) (r : Answer) (e : (fuse : ℕ) → r ≡ answerOf fuse (i
       {q : Request} {fuse : ℕ} (w : Verdict)
       → (r .answer ≡ 0 → ⊥) → verdictOn img q ≡ ifSettled (length img) (mem img) w → Does img q fuse img r
   stopped-does {fuse = fuse} w z e = acts-does _ e (unsettled-acts z w fuse)
+
+  -- a request on the clump that has its body at an offset
+  module _ (q : Request) (offset fuse : ℕ) (go : Head → Verdict) (z : r .answer ≡ 0) (is : verdictOn img q ≡ ifSettled (length img) (mem img) (found (finder (clumpsOf img) offset) go)) where
+    pub missing-does : finder (clumpsOf img) offset ≡ none → Does img q fuse img (answerIs 6 0 0)
+    missing-does f = passed-does (found (finder (clumpsOf img) offset) go) (refuse noClump) z is (ap (λ (c : Option Head). found c go) f) (acts-refused img 6 0 0 fuse)
+
+    pub found-does : {x : Image} {s : Answer} (h : Head) → finder (clumpsOf img) offset ≡ some h → Acts img (go h) fuse x s → Does img q fuse x s
+    found-does h f a = passed-does (found (finder (clumpsOf img) offset) go) (go h) z is (ap (λ (c : Option Head). found c go) f) a

@@ -5,17 +5,20 @@ use mathlib.Core.Path.{_≡_, refl, sym, ap, _∙_}
 use mathlib.Core.Bool.{Bool, false}
 use mathlib.Core.Option.{Option, some, none}
 use native.Mathlib.Omega.{arith}
-use lib.Dec.{leb}
+use lib.Dec.{leb, eqb}
 use borrow.Author.Tests.{lt-leb, le-leb}
 use Rattle.rules.specs.Lists.{seek}
 use Rattle.rules.specs.Words.{Mem}
 use Rattle.rules.specs.Pages.{clumpsAt}
-use Rattle.rules.specs.Clumps.{Head, head, Tiles, walk}
+use Rattle.rules.specs.Clumps.{Head, head, bodyOf, Tiles, walk}
 use Rattle.rules.specs.Sound.{lies}
 use Rattle.rules.specs.Stores.{needOf}
+use Rattle.rules.specs.Requests.{finder}
 use Rattle.word.specs.Tests.{leb-same}
 use Rattle.laws.specs.Walking.{Inside, seek-placed}
-use Rattle.walk.specs.Forms.{offsetOf}
+use Rattle.walk.specs.Forms.{offsetOf, foundOf}
+use Rattle.walk.specs.declared.Found.{Found}
+use Rattle.walk.specs.declared.Found.the-variants.{At, Nothing}
 
 pub need-small : (n size : ℕ) → n < 64 → false ≡ leb (needOf size) n
 unfolding needOf
@@ -58,3 +61,24 @@ module _ (n : ℕ) (m : Mem) (p : Head → Bool) (tiles : Tiles clumpsAt (walk n
 
   pub offset-inside : r < n → Inside n m r
   offset-inside l = seek-placed n m p (head m r) tiles (offset-some l) .inside
+
+-- what the finder's enum tells, in clumps that tile
+module _ (n : ℕ) (m : Mem) (body : ℕ) (tiles : Tiles clumpsAt (walk n m) n) (r : Found) (e : r ≡ foundOf (finder (walk n m) body)) where
+  pub found-none : r ≡ Nothing → finder (walk n m) body ≡ none
+  found-none f = go (finder (walk n m) body) refl
+    where
+      go : (o : Option Head) → finder (walk n m) body ≡ o → finder (walk n m) body ≡ none
+      go none q = q
+      go (some h) q = absurd (let z : _≡_ {A = ℕ} 0 1 = cc (ap foundOf q) in omega arith)
+
+  pub found-some : (h : ℕ) → r ≡ At h → finder (walk n m) body ≡ some (head m h)
+  found-some h f = go (finder (walk n m) body) refl
+    where
+      go : (o : Option Head) → finder (walk n m) body ≡ o → finder (walk n m) body ≡ some (head m h)
+      go none q = absurd (let z : _≡_ {A = ℕ} 0 1 = cc (ap foundOf q) in omega arith)
+      go (some k) q =
+          let a : k .at ≡ h = cc (ap foundOf q) in
+          q ∙ ap {B = Option Head} some (seek-placed n m (λ c. eqb (bodyOf c) body) k tiles q .head-is ∙ ap (head m) a)
+
+  pub found-inside : (h : ℕ) → r ≡ At h → Inside n m h
+  found-inside h f = seek-placed n m (λ c. eqb (bodyOf c) body) (head m h) tiles (found-some h f) .inside

@@ -1,0 +1,2 @@
+-- What the contracts of `list` cite beside the rules, and the laws of its requests.
+pub mod Slots

@@ -1,0 +1,158 @@
+-- The first empty and the last used entry of a list that was read, and a law for each way out of the requests on it.
+-- Assumes nothing.
+use Prim.Native.Nat.{ℕ, _+_, _%_, _<_, _≤_}
+use mathlib.Core.Path.{_≡_, refl, sym, ap, _∙_}
+use mathlib.Core.Bool.{Bool, true, false, cond, not}
+use mathlib.Core.Option.{Option, some, none}
+use mathlib.Core.List.{List, [], _∷_}
+use native.Mathlib.Omega.{arith}
+use lib.Dec.{eqb}
+use lib.ListN.{length, getD}
+use borrow.Author.Tests.{eq-eqb, ne-eqb, eqb-true, eqb-false}
+use Rattle.rules.specs.declared.Answer.{Answer}
+use Rattle.rules.specs.Lists.{seek, those}
+use Rattle.rules.specs.Words.{Image, Mem, Store, mem, store}
+use Rattle.rules.specs.Clumps.{Head, head, hasState, isWaiting, isEmpty, isUsed, slots, valueAt, usedSlots}
+use Rattle.rules.specs.Sound.{isValid}
+use Rattle.rules.specs.Answers.{Verdict, granted, refuse, test, wrongState, listFull, listEmpty, badTarget, answerAt}
+use Rattle.rules.specs.Stores.{listStores, lastOf, withdrawStores}
+use Rattle.rules.specs.Requests.{listed, enlist, withdrawn, withdraw}
+use Rattle.page.specs.Forms.{listAt}
+
+-- where the first empty entry stands, 0 for none
+abbrev pub emptyIn : ℕ → List (List ℕ) → ℕ
+emptyIn h l = cond (eqb (getD (getD l 0 []) 0 0) 0) (h + 16) (cond (eqb (getD (getD l 1 []) 0 0) 0) (h + 32) (cond (eqb (getD (getD l 2 []) 0 0) 0) (h + 48) 0))
+
+-- where the last used entry stands, 0 for none
+abbrev pub lastIn : ℕ → List (List ℕ) → ℕ
+lastIn h l = cond (eqb (getD (getD l 2 []) 0 0) 0) (cond (eqb (getD (getD l 1 []) 0 0) 0) (cond (eqb (getD (getD l 0 []) 0 0) 0) 0 (h + 16)) (h + 32)) (h + 48)
+
+-- what the two offsets tell: s is where the entry stands in the list l that was read from the clump at h
+module _ (m : Mem) (h s : ℕ) (l : List (List ℕ)) (is : l ≡ listAt m h) where
+  pub empty-none : s ≡ emptyIn h l → s ≡ 0 → seek (isEmpty m) (slots h) ≡ none
+  unfolding seek
+  empty-none e z = go (isEmpty m (h + 16)) (isEmpty m (h + 32)) (isEmpty m (h + 48)) (rw is at e)
+    where
+      go :
+          (t u v : Bool)
+          → s ≡ cond t (h + 16) (cond u (h + 32) (cond v (h + 48) 0))
+          → _≡_ {A = Option ℕ}
+          (elim t [ true ↦ some (h + 16) | false ↦ elim u [ true ↦ some (h + 32) | false ↦ elim v [ true ↦ some (h + 48) | false ↦ none ] ] ])
+          none
+      go true u v f = absurd (omega arith)
+      go false true v f = absurd (omega arith)
+      go false false true f = absurd (omega arith)
+      go false false false f = refl
+
+  pub empty-some : s ≡ emptyIn h l → (s ≡ 0 → ⊥) → seek (isEmpty m) (slots h) ≡ some s
+  unfolding seek
+  empty-some e z = go (isEmpty m (h + 16)) (isEmpty m (h + 32)) (isEmpty m (h + 48)) (rw is at e)
+    where
+      go :
+          (t u v : Bool)
+          → s ≡ cond t (h + 16) (cond u (h + 32) (cond v (h + 48) 0))
+          → _≡_ {A = Option ℕ}
+          (elim t [ true ↦ some (h + 16) | false ↦ elim u [ true ↦ some (h + 32) | false ↦ elim v [ true ↦ some (h + 48) | false ↦ none ] ] ])
+          (some s)
+      go true u v f = ap {B = Option ℕ} some (sym f)
+      go false true v f = ap {B = Option ℕ} some (sym f)
+      go false false true f = ap {B = Option ℕ} some (sym f)
+      go false false false f = absurd (z f)
+
+  pub withdrawn-none : (o : ℕ) → s ≡ lastIn h l → s ≡ 0 → withdrawn (usedSlots m h) o ≡ refuse listEmpty
+  unfolding those
+  withdrawn-none o e z = go (isEmpty m (h + 16)) (isEmpty m (h + 32)) (isEmpty m (h + 48)) (rw is at e)
+    where
+      go :
+          (t u v : Bool)
+          → s ≡ cond v (cond u (cond t 0 (h + 16)) (h + 32)) (h + 48)
+          → let k = cond (not v) ((h + 48) ∷ []) [] in
+          let j = cond (not u) ((h + 32) ∷ k) k in
+          withdrawn (cond (not t) ((h + 16) ∷ j) j) o ≡ refuse listEmpty
+      go true true true f = refl
+      go true true false f = absurd (omega arith)
+      go true false true f = absurd (omega arith)
+      go true false false f = absurd (omega arith)
+      go false true true f = absurd (omega arith)
+      go false true false f = absurd (omega arith)
+      go false false true f = absurd (omega arith)
+      go false false false f = absurd (omega arith)
+
+  pub withdrawn-some : (o : ℕ) → s ≡ lastIn h l → (s ≡ 0 → ⊥) → withdrawn (usedSlots m h) o ≡ granted o (store s 0 ∷ [])
+  unfolding those
+  withdrawn-some o e z = go (isEmpty m (h + 16)) (isEmpty m (h + 32)) (isEmpty m (h + 48)) (rw is at e)
+    where
+      to : (x : ℕ) → s ≡ x → granted o (store x 0 ∷ []) ≡ granted o (store s 0 ∷ [])
+      to x f = ap (λ (i : ℕ). granted o (store i 0 ∷ [])) (sym f)
+
+      go :
+          (t u v : Bool)
+          → s ≡ cond v (cond u (cond t 0 (h + 16)) (h + 32)) (h + 48)
+          → let k = cond (not v) ((h + 48) ∷ []) [] in
+          let j = cond (not u) ((h + 32) ∷ k) k in
+          withdrawn (cond (not t) ((h + 16) ∷ j) j) o ≡ granted o (store s 0 ∷ [])
+      go true true true f = absurd (z f)
+      go true true false f = to _ f
+      go true false true f = to _ f
+      go true false false f = to _ f
+      go false true true f = to _ f
+      go false true false f = to _ f
+      go false false true f = to _ f
+      go false false false f = to _ f
+
+-- an entry stands in the header, at an offset divisible by 8
+pub empty-in : (h : ℕ) (l : List (List ℕ)) → (emptyIn h l ≡ 0 → ⊥) → h % 8 ≡ 0 → (h + 16 ≤ emptyIn h l) × (emptyIn h l ≤ h + 48) × (emptyIn h l % 8 ≡ 0)
+empty-in h l z e = go (eqb (getD (getD l 0 []) 0 0) 0) (eqb (getD (getD l 1 []) 0 0) 0) (eqb (getD (getD l 2 []) 0 0) 0) z
+  where
+    go :
+        (t u v : Bool)
+        → let s = cond t (h + 16) (cond u (h + 32) (cond v (h + 48) 0)) in
+        (s ≡ 0 → ⊥)
+        → (h + 16 ≤ s) × (s ≤ h + 48) × (s % 8 ≡ 0)
+    go true u v y = omega arith
+    go false true v y = omega arith
+    go false false true y = omega arith
+    go false false false y = absurd (y refl)
+
+pub last-in : (h : ℕ) (l : List (List ℕ)) → (lastIn h l ≡ 0 → ⊥) → h % 8 ≡ 0 → (h + 16 ≤ lastIn h l) × (lastIn h l ≤ h + 48) × (lastIn h l % 8 ≡ 0)
+last-in h l z e = go (eqb (getD (getD l 0 []) 0 0) 0) (eqb (getD (getD l 1 []) 0 0) 0) (eqb (getD (getD l 2 []) 0 0) 0) z
+  where
+    go :
+        (t u v : Bool)
+        → let s = cond v (cond u (cond t 0 (h + 16)) (h + 32)) (h + 48) in
+        (s ≡ 0 → ⊥)
+        → (h + 16 ≤ s) × (s ≤ h + 48) × (s % 8 ≡ 0)
+    go t u false y = omega arith
+    go t false true y = omega arith
+    go false true true y = omega arith
+    go true true true y = absurd (y refl)
+
+-- onactive and onfree on a clump, a law for each way out
+module _ (m : Mem) (hs : List Head) (allowed o t v : ℕ) (h : Head) where
+  pub enlist-state : hasState allowed h ≡ false → enlist m hs allowed o t v h ≡ refuse wrongState
+  unfolding enlist
+  enlist-state e = rw e
+
+  module _ (state : hasState allowed h ≡ true) where
+    pub enlist-full : seek (isEmpty m) (slots (h .at)) ≡ none → enlist m hs allowed o t v h ≡ refuse listFull
+    unfolding enlist
+    enlist-full e = rw (state, e)
+
+    module _ (s : ℕ) (e : seek (isEmpty m) (slots (h .at)) ≡ some s) where
+      pub enlist-bad : isValid hs t ≡ false → enlist m hs allowed o t v h ≡ refuse badTarget
+      unfolding enlist
+      enlist-bad f = rw (state, e, f)
+
+      pub enlist-done : isValid hs t ≡ true → enlist m hs allowed o t v h ≡ granted o (listStores s t v)
+      unfolding enlist
+      enlist-done f = rw (state, e, f)
+
+-- withdraw from a clump
+module _ (m : Mem) (o : ℕ) (h : Head) where
+  pub withdraw-state : isWaiting h ≡ false → withdraw m o h ≡ refuse wrongState
+  unfolding withdraw
+  withdraw-state e = rw e
+
+  pub withdraw-is : isWaiting h ≡ true → withdraw m o h ≡ withdrawn (usedSlots m (h .at)) o
+  unfolding withdraw
+  withdraw-is e = rw e

@@ -216,7 +216,8 @@ fn bad_target(img: &[u8]) -> Judged
     if img.len() <= h {
         return Judged::Sound;
     }
-    if walk::all_valid(img, h) {
+    let l = Clump::list(img, h);
+    if walk::all_valid(img, l) {
         return Judged::Sound;
     }
     Judged::Fault {

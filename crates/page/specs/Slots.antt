@@ -76,16 +76,10 @@ abbrev pub allUsed : (ℕ → Bool) → Mem → List ℕ → Bool
 allUsed q m sl = all (λ s. q (m s)) (those (isUsed m) sl)
 
 module _ (q : ℕ → Bool) (m : Mem) (s : ℕ) (sl : List ℕ) (t : ℕ) (e : m s ≡ t) where
-  all-step : allUsed q m (s ∷ sl) ≡ ((eqb t 0 || q t) && allUsed q m sl)
+  pub all-step : allUsed q m (s ∷ sl) ≡ ((eqb t 0 || q t) && allUsed q m sl)
   unfolding those all
   all-step = rw (← e) (go (eqb (m s) 0))
     where
       go : (b : Bool) → all (λ r. q (m r)) (cond (not b) (s ∷ those (isUsed m) sl) (those (isUsed m) sl)) ≡ ((b || q (m s)) && allUsed q m sl)
       go true = refl
       go false = refl
-
-  pub all-stop : (eqb t 0 || q t) ≡ false → allUsed q m (s ∷ sl) ≡ false
-  all-stop h = all-step ∙ rw h
-
-  pub all-go : (eqb t 0 || q t) ≡ true → allUsed q m (s ∷ sl) ≡ allUsed q m sl
-  all-go h = all-step ∙ rw h

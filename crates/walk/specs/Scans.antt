@@ -2,21 +2,27 @@
 -- searches' answers at the end, at a hit and past a clump. Assumes nothing.
 use Prim.Native.Nat.{ℕ, _+_, _-_, _*_, _/_, _<_, _≤_}
 use mathlib.Core.Path.{_≡_, refl, sym, ap, _∙_}
-use mathlib.Core.Bool.{Bool, false}
+use mathlib.Core.List.{List, [], _∷_}
+use mathlib.Core.Bool.{Bool, true, false, _&&_, _||_}
 use mathlib.Core.Option.{Option, some, none}
 use native.Mathlib.Omega.{arith}
+use native.Mathlib.Numerals.{add-one}
+use lib.ListN.{length, getD, drop, drop-of-length-le}
+use lib.Seq.{drop-cons}
 use lib.Dec.{leb, eqb}
 use borrow.Author.Tests.{lt-leb, le-leb}
-use Rattle.rules.specs.Lists.{seek}
+use Rattle.rules.specs.Lists.{seek, those, all}
 use Rattle.rules.specs.Words.{Mem}
 use Rattle.rules.specs.Pages.{clumpsAt}
 use Rattle.rules.specs.Clumps.{Head, head, bodyOf, Tiles, walk}
-use Rattle.rules.specs.Sound.{lies}
+use Rattle.rules.specs.Sound.{lies, isValid, allValid}
 use Rattle.rules.specs.Stores.{needOf}
 use Rattle.rules.specs.Requests.{finder}
 use Rattle.word.specs.Tests.{leb-same}
 use Rattle.laws.specs.Walking.{Inside, seek-placed}
-use Rattle.walk.specs.Forms.{offsetOf, foundOf}
+use Rattle.walk.specs.Forms.{offsetOf, foundOf, listValid}
+use Rattle.page.specs.Forms.{listAt}
+use Rattle.page.specs.Slots.{all-step}
 use Rattle.walk.specs.declared.Found.{Found}
 use Rattle.walk.specs.declared.Found.the-variants.{At, Nothing}
 
@@ -82,3 +88,31 @@ module _ (n : ℕ) (m : Mem) (body : ℕ) (tiles : Tiles clumpsAt (walk n m) n) 
 
   pub found-inside : (h : ℕ) → r ≡ At h → Inside n m h
   found-inside h f = seek-placed n m (λ c. eqb (bodyOf c) body) (head m h) tiles (found-some h f) .inside
+
+-- the list that was read from a clump
+pub list-valid : (m : Mem) (hs : List Head) (a : ℕ) (l : List (List ℕ)) → l ≡ listAt m a → listValid hs l ≡ allValid m hs (head m a)
+unfolding listValid allValid those all
+list-valid m hs a l e =
+    let q = isValid hs in
+    rw e
+    (sym
+    (all-step q m (a + 16) ((a + 32) ∷ (a + 48) ∷ []) (m (a + 16)) refl
+    ∙ ap (λ (b : Bool). (eqb (m (a + 16)) 0 || q (m (a + 16))) && b)
+    (all-step q m (a + 32) ((a + 48) ∷ []) (m (a + 32)) refl
+    ∙ ap (λ (b : Bool). (eqb (m (a + 32)) 0 || q (m (a + 32))) && b) (all-step q m (a + 48) [] (m (a + 48)) refl))))
+
+-- a loop over the list: what is left of it still has the answer of the whole
+module _ (hs : List Head) (l : List (List ℕ)) (i : ℕ) (u : i < length l) (w : listValid hs (drop i l) ≡ listValid hs l) where
+  here : listValid hs (drop i l) ≡ ((eqb (getD (getD l i []) 0 0) 0 || isValid hs (getD (getD l i []) 0 0)) && listValid hs (drop (i + 1) l))
+  unfolding listValid
+  here = rw (add-one, drop-cons l i [] u)
+
+  pub valid-stop : (eqb (getD (getD l i []) 0 0) 0 || isValid hs (getD (getD l i []) 0 0)) ≡ false → false ≡ listValid hs l
+  valid-stop f = sym (sym w ∙ here ∙ rw f)
+
+  pub valid-go : (eqb (getD (getD l i []) 0 0) 0 || isValid hs (getD (getD l i []) 0 0)) ≡ true → listValid hs (drop (i + 1) l) ≡ listValid hs l
+  valid-go f = sym (here ∙ rw f) ∙ w
+
+pub valid-end : (hs : List Head) (l : List (List ℕ)) (i : ℕ) → length l ≤ i → listValid hs (drop i l) ≡ listValid hs l → true ≡ listValid hs l
+unfolding listValid
+valid-end hs l i u w = rw (drop-of-length-le l u) at w

@@ -13,7 +13,7 @@ ghost use Rattle.rules.specs.Stores.{needOf, fits};
 ghost use Rattle.rules.specs.Requests.{finder};
 ghost use Rattle.rules.specs.Reading.{clumpsOf, Tiled};
 ghost use Rattle.page.specs.Forms.{headOf};
-ghost use Rattle.walk.specs.Forms.{foundOf, offsetOf, holdsWord};
+ghost use Rattle.walk.specs.Forms.{foundOf, offsetOf, holdsWord, listValid};
 use page::CLUMPS_AT;
 use page::STATIC_AT;
 use page::STATIC_END;
@@ -147,14 +147,11 @@ fn entry_valid(img: &[u8], t: u64) -> bool
     valid(img, t)
 }
 
-// Whether every used target of the clump at h is valid now.
-pub fn all_valid(img: &[u8], h: usize) -> bool
+// Whether every used target of a list is valid now.
+pub fn all_valid(img: &[u8], l: [[u64; 2]; 3]) -> bool
     requires { ⌜ Tiled (now img) ⌝ }
-    requires { ⌜ h + headerBytes ≤ length (now img) ⌝ }
-    requires { ⌜ h % wordBytes ≡ 0 ⌝ }
-    ensures { λ r. ⌜ r ≡ allValid (mem (now (img .entry))) (clumpsOf (now (img .entry))) (head (mem (now (img .entry))) h) ⌝ }
+    ensures { λ r. ⌜ r ≡ listValid (clumpsOf (now (img .entry))) l ⌝ }
 {
-    let l = Clump::list(img, h);
     let mut i: usize = 0;
     while i < 3 {
         if !entry_valid(img, l[i][0]) {

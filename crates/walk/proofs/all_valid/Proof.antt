@@ -1,30 +1,27 @@
--- `all_valid`: what is asked of the used entries is asked of one entry after the other. Assumes nothing.
-use borrow.Author.Tests.{not-true, not-false}
-use Prim.Native.Nat.{_-_}
-use mathlib.Core.Path.{sym, _∙_}
+-- `all_valid`: what is left of the list still has the answer of the whole. Assumes nothing.
+use Prim.Native.Nat.{_-_, _≤_}
+use mathlib.Core.Path.{_≡_, refl, sym, _∙_}
+use lib.ListN.{length, drop}
+use native.Mathlib.Omega.{arith}
 use borrow.Author.Needs.{needs}
-use Rattle.rules.specs.Lists.{those, all}
-use Rattle.rules.specs.Words.{mem}
-use Rattle.rules.specs.Clumps.{head}
-use Rattle.rules.specs.Sound.{isValid, allValid}
+use borrow.Author.Tests.{not-true, not-false}
 use Rattle.rules.specs.Reading.{clumpsOf, Tiled}
-use Rattle.page.specs.Slots.{Entries, entries-start, entries-hit, entries-move, entries-end, allUsed, all-stop, all-go}
+use Rattle.walk.specs.Forms.{listValid}
+use Rattle.walk.specs.Scans.{valid-stop, valid-go, valid-end}
 use Rattle.walk.proofs.all_valid.Statement.{statement}
 use Rattle.walk.proofs.all_valid.Tie as tie
+use Rattle.walk.proofs.all_valid.Reads as reads
+use Rattle.walk.proofs.all_valid.Lts as lts
+use Rattle.walk.proofs.entry_valid.Reads as entry-valid-reads
 
 abbrev Inv-loop : tie.InvT-loop
-Inv-loop img h l i₀ i = Tiled img × Entries (allUsed (isValid (clumpsOf img)) (mem img)) (mem img) h l i (allValid (mem img) (clumpsOf img) (head (mem img) h))
+Inv-loop img l i₀ i = (i ≤ 3) × Tiled img × (listValid (clumpsOf img) (drop i l) ≡ listValid (clumpsOf img) l)
 
 abbrev μ-loop : tie.MeasureT-loop
-μ-loop img h l i₀ i = 3 - i
-
-list-requires : tie.Need-list-requires Inv-loop μ-loop
-list-requires c κs = search needs
+μ-loop img l i₀ i = 3 - i
 
 loop-holds : tie.Need-loop-holds Inv-loop μ-loop
-unfolding allValid
-loop-holds c = let img = c .before .before .args .img .now in
-    (c .before .before .pre .0, entries-start (allUsed (isValid (clumpsOf img)) (mem img)) _ _ _ (c .list .ensures))
+loop-holds c = (omega arith, c .before .pre, refl)
 
 mul-entry-valid : tie.Need-mul-entry-valid Inv-loop μ-loop
 mul-entry-valid c = search needs
@@ -36,12 +33,10 @@ index-2-entry-valid : tie.Need-index-2-entry-valid Inv-loop μ-loop
 index-2-entry-valid c = search needs
 
 entry-valid-requires : tie.Need-entry-valid-requires Inv-loop μ-loop
-entry-valid-requires c κs = c .before .before .loop .inv .0
+entry-valid-requires c κs = c .before .before .loop .inv .1
 
 returns : tie.Need-returns Inv-loop μ-loop
-returns c = let img = c .before .before .before .before .before .before .before .args .img .now in
-    entries-hit (c .before .before .before .before .loop .inv .1) (search needs) _
-    (λ s sl e. all-stop (isValid (clumpsOf img)) (mem img) s sl _ e (sym (c .before .entry-valid .ensures) ∙ not-true _ (c .if1 .taken)))
+returns c = valid-stop (clumpsOf (c .before .before .before .before .before .before .args .img .now)) (c .before .before .before .before .before .before .args .t2) (c .before .before .before .before .loop .i) (search needs) (c .before .before .before .before .loop .inv .2) (sym (c .before .entry-valid .ensures) ∙ not-true _ (c .if1 .taken))
 
 add-i : tie.Need-add-i Inv-loop μ-loop
 add-i c = search needs
@@ -50,12 +45,11 @@ loop-less : tie.Need-loop-less Inv-loop μ-loop
 loop-less c = search needs
 
 loop-again : tie.Need-loop-again Inv-loop μ-loop
-loop-again c = let img = c .before .before .before .before .before .before .before .args .img .now in
-    (c .before .before .before .before .loop .inv .0, entries-move (c .before .before .before .before .loop .inv .1) (search needs) _ (λ s sl e. all-go (isValid (clumpsOf img)) (mem img) s sl _ e (sym (c .before .entry-valid .ensures) ∙ not-false _ (c .if1 .left))))
+loop-again c = (search needs, c .before .before .before .before .loop .inv .1, valid-go (clumpsOf (c .before .before .before .before .before .before .args .img .now)) (c .before .before .before .before .before .before .args .t2) (c .before .before .before .before .loop .i) (search needs) (c .before .before .before .before .loop .inv .2) (sym (c .before .entry-valid .ensures) ∙ not-false _ (c .if1 .left)))
 
 returns-2 : tie.Need-returns-2 Inv-loop μ-loop
-unfolding all those
-returns-2 c = entries-end (c .before .loop .inv .1) (search needs)
+returns-2 c = let n : length (c .before .before .before .args .t2) ≡ 3 = search needs in
+    valid-end (clumpsOf (c .before .before .before .args .img .now)) (c .before .before .before .args .t2) (c .before .loop .i) (omega arith) (c .before .loop .inv .2)
 
 pub all-valid-spec : {M : Type 1} → statement M
 all-valid-spec =
@@ -63,7 +57,6 @@ all-valid-spec =
     (tie.spec
     Inv-loop
     μ-loop
-    list-requires
     loop-holds
     mul-entry-valid
     index-1-entry-valid

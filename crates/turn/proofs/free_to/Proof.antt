@@ -1,0 +1,70 @@
+-- `free_to`: a walk that asks each clump for its state and its end. Assumes nothing.
+use Prim.Native.Nat.{_-_}
+use lib.ListN.{length}
+use native.Mathlib.Omega.{arith}
+use Rattle.rules.specs.Words.{mem}
+use Rattle.rules.specs.Reading.{clumpsOf, Tiled}
+use Rattle.laws.specs.Walking.{Walking, walking-start, walking-end, walking-hit, walking-move, walking-inside}
+use mathlib.Core.Path.{_≡_, ap}
+use mathlib.Core.Bool.{false}
+use Rattle.rules.specs.Lists.{seek}
+use Rattle.rules.specs.Clumps.{head}
+use Rattle.laws.specs.Searches.{seek-hit, seek-pass}
+use Rattle.walk.specs.Forms.{offsetOf}
+use Rattle.turn.specs.Turns.{belowOf}
+use Rattle.turn.proofs.free_to.Statement.{statement}
+use Rattle.turn.proofs.free_to.Tie as tie
+use Rattle.turn.proofs.free_to.Reads as reads
+use Rattle.turn.proofs.free_to.Lts as lts
+use Rattle.page.proofs.clump.Clump.read.Reads as read-reads
+use Rattle.turn.proofs.is_free_at.Reads as is-free-at-reads
+
+abbrev Inv-loop : tie.InvT-loop
+Inv-loop img at h₀ h = Tiled img × Walking (λ hs. offsetOf (length img) (seek (belowOf at) hs)) (length img) (mem img) h (offsetOf (length img) (seek (belowOf at) (clumpsOf img)))
+
+abbrev μ-loop : tie.MeasureT-loop
+μ-loop img at h₀ h = length img - h
+
+loop-holds : tie.Need-loop-holds Inv-loop μ-loop
+loop-holds c = (c .before .pre, walking-start (λ hs. offsetOf _ (seek (belowOf _) hs)) _ _)
+
+returns : tie.Need-returns Inv-loop μ-loop
+unfolding seek
+returns c = walking-end (c .before .loop .inv .1) (c .if1 .taken)
+
+read-requires : tie.Need-read-requires Inv-loop μ-loop
+read-requires c κs = let i = walking-inside (c .before .loop .inv .1) (c .if1 .left) (c .before .loop .inv .0) in omega arith
+
+add-end : tie.Need-add-end Inv-loop μ-loop
+add-end c = let i = walking-inside (c .before .before .loop .inv .1) (c .before .if1 .left) (c .before .before .loop .inv .0) in omega (arith, c .read .ensures .0)
+
+is-free-at-requires : tie.Need-is-free-at-requires Inv-loop μ-loop
+is-free-at-requires c κs = tt
+
+returns-2 : tie.Need-returns-2 Inv-loop μ-loop
+returns-2 c = let k = head (mem (c .before .before .before .before .before .before .args .img .now)) (c .before .before .before .before .loop .h) in walking-hit (c .before .before .before .before .loop .inv .1) (c .before .before .before .if1 .left) _ (λ t. ap (offsetOf _) (seek-hit (belowOf (c .before .before .before .before .before .before .args .at)) k t (cc)))
+
+loop-less : tie.Need-loop-less Inv-loop μ-loop
+loop-less c = let i = walking-inside (c .before .before .before .before .loop .inv .1) (c .before .before .before .if1 .left) (c .before .before .before .before .loop .inv .0) in omega (arith, c .before .before .read .ensures .0)
+
+loop-again : tie.Need-loop-again Inv-loop μ-loop
+loop-again c = let i = walking-inside (c .before .before .before .before .loop .inv .1) (c .before .before .before .if1 .left) (c .before .before .before .before .loop .inv .0) in
+    let k = head (mem (c .before .before .before .before .before .before .args .img .now)) (c .before .before .before .before .loop .h) in
+    let s : belowOf (c .before .before .before .before .before .before .args .at) k ≡ false = cc in
+    rw (c .before .before .read .ensures .0)
+    (c .before .before .before .before .loop .inv .0, walking-move (c .before .before .before .before .loop .inv .1) (c .before .before .before .if1 .left) (omega arith) (i .whole) _ (λ t. ap (offsetOf _) (seek-pass (belowOf (c .before .before .before .before .before .before .args .at)) k t s)))
+
+pub free-to-spec : {M : Type 1} → statement M
+free-to-spec =
+    tie.close
+    (tie.spec
+    Inv-loop
+    μ-loop
+    loop-holds
+    returns
+    read-requires
+    add-end
+    is-free-at-requires
+    returns-2
+    loop-less
+    loop-again)

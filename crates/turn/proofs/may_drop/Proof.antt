@@ -1,0 +1,20 @@
+-- `may_drop`: by the state. Assumes nothing.
+use borrow.Author.Tests.{eq-eqb, ne-eqb}
+use borrow.Author.Needs.{needs}
+use Rattle.turn.proofs.may_drop.Statement.{statement}
+use Rattle.turn.proofs.may_drop.Tie as tie
+use Rattle.turn.proofs.may_drop.Reads as reads
+use Rattle.turn.proofs.may_drop.Lts as lts
+use Rattle.walk.proofs.all_valid.Reads as all-valid-reads
+
+all-valid-requires : tie.Need-all-valid-requires
+all-valid-requires c κs = search needs
+
+returns : tie.Need-returns
+returns c = rw (eq-eqb _ _ (c .before .if1 .taken)) (c .all-valid .ensures)
+
+returns-2 : tie.Need-returns-2
+returns-2 c = rw (ne-eqb _ _ (c .if1 .left))
+
+pub may-drop-spec : {M : Type 1} → statement M
+may-drop-spec = tie.close (tie.spec all-valid-requires returns returns-2)

@@ -1,0 +1,92 @@
+-- `release`: the clumps beside are found before the first store; then three runs, one after the other. Assumes nothing.
+use Rattle.turn.specs.Turns.{release-acts, startsAt, belowOf, beside-inside, beside-found, next-room, under-room, list-in, free-stores}
+use native.Mathlib.Omega.{arith}
+use Prim.Native.Nat.{_+_}
+use mathlib.Core.Path.{_∙_}
+use Rattle.steps.specs.Acts.{acts-ran}
+use Rattle.word.specs.Runs.{ran-then}
+use borrow.Author.Needs.{needs}
+use Rattle.turn.proofs.release.Statement.{statement}
+use Rattle.turn.proofs.release.Tie as tie
+use Rattle.turn.proofs.release.Reads as reads
+use Rattle.turn.proofs.release.Lts as lts
+use Rattle.steps.proofs.finish.Reads as finish-reads
+use Rattle.turn.proofs.bytes_at.Reads as bytes-at-reads
+use Rattle.turn.proofs.drop_list.Reads as drop-list-reads
+use Rattle.turn.proofs.free_from.Reads as free-from-reads
+use Rattle.turn.proofs.free_to.Reads as free-to-reads
+use Rattle.turn.proofs.store_if.Reads as store-if-reads
+use Rattle.word.proofs.Power.new.Reads as new-reads
+
+add-free-from : tie.Need-add-free-from
+add-free-from c = search needs
+
+free-from-requires : tie.Need-free-from-requires
+free-from-requires c κs = search needs
+
+bytes-at-requires : tie.Need-bytes-at-requires
+bytes-at-requires c κs = beside-inside _ _ (startsAt (c .before .before .before .args .h + c .before .before .before .args .nbytes)) (c .before .before .before .pre .tiles) _ (c .free-from .ensures)
+
+free-to-requires : tie.Need-free-to-requires
+free-to-requires c κs = search needs
+
+bytes-at-requires-2 : tie.Need-bytes-at-requires-2
+bytes-at-requires-2 c κs = beside-inside _ _ (belowOf (c .before .before .before .before .before .before .before .args .h)) (c .before .before .before .before .before .before .before .pre .tiles) _ (c .before .free-to .ensures)
+
+add-both : tie.Need-add-both
+add-both c = let n = next-room (c .before .before .before .before .before .before .before .before .args .img .now) (c .before .before .before .before .before .before .before .before .args .h) (c .before .before .before .before .before .before .before .before .args .state) (c .before .before .before .before .before .before .before .before .args .nbytes) _ (c .before .before .before .before .before .before .before .before .pre) _ _ (c .before .before .before .before .before .free-from .ensures) (c .before .before .free-to .ensures) in
+    let u = under-room (c .before .before .before .before .before .before .before .before .args .img .now) (c .before .before .before .before .before .before .before .before .args .h) (c .before .before .before .before .before .before .before .before .args .state) (c .before .before .before .before .before .before .before .before .args .nbytes) _ (c .before .before .before .before .before .before .before .before .pre) _ _ (c .before .before .before .before .before .free-from .ensures) (c .before .before .free-to .ensures) in
+    let e₁ = c .before .before .before .before .bytes-at .ensures in
+    let e₂ = c .bytes-at2 .ensures in
+    let r = c .before .before .before .before .before .before .before .before .pre .room in
+    let s = c .before .before .before .before .before .before .before .before .pre .small in
+    omega arith
+
+add-all : tie.Need-add-all
+add-all c = let n = next-room (c .before .before .before .before .before .before .before .before .args .img .now) (c .before .before .before .before .before .before .before .before .args .h) (c .before .before .before .before .before .before .before .before .args .state) (c .before .before .before .before .before .before .before .before .args .nbytes) _ (c .before .before .before .before .before .before .before .before .pre) _ _ (c .before .before .before .before .before .free-from .ensures) (c .before .before .free-to .ensures) in
+    let u = under-room (c .before .before .before .before .before .before .before .before .args .img .now) (c .before .before .before .before .before .before .before .before .args .h) (c .before .before .before .before .before .before .before .before .args .state) (c .before .before .before .before .before .before .before .before .args .nbytes) _ (c .before .before .before .before .before .before .before .before .pre) _ _ (c .before .before .before .before .before .free-from .ensures) (c .before .before .free-to .ensures) in
+    let e₁ = c .before .before .before .before .bytes-at .ensures in
+    let e₂ = c .bytes-at2 .ensures in
+    let r = c .before .before .before .before .before .before .before .before .pre .room in
+    let s = c .before .before .before .before .before .before .before .before .pre .small in
+    omega arith
+
+new-requires : tie.Need-new-requires
+new-requires c κs = search needs
+
+drop-list-requires : tie.Need-drop-list-requires
+drop-list-requires c κs = (c .before .before .before .before .before .before .before .before .before .before .pre .header, (c .before .before .before .before .before .before .before .before .before .before .pre .even, ((λ a. list-in _ _ _ (c .before .before .before .before .before .before .before .before .before .before .pre .tiles) (c .before .before .before .before .before .before .before .before .before .before .pre .valid a)), rw (c .before .new .ensures) (omega (arith, c .before .before .before .before .before .before .before .before .before .before .fits .fuse)))))
+
+store-if-requires : tie.Need-store-if-requires
+store-if-requires c κs = ((λ z. (c .before .before .before .before .before .before .before .before .before .before .before .before .before .before .pre .even, rw (c .before .before .before .drop-list .ensures .long) (omega (arith, c .before .before .before .before .before .before .before .before .before .before .before .before .before .before .pre .header)))), rw (c .before .before .before .drop-list .ensures .sum, c .before .before .before .before .before .new .ensures) (omega (arith, c .before .before .before .before .before .before .before .before .before .before .before .before .before .before .fits .fuse)))
+
+store-if-requires-2 : tie.Need-store-if-requires-2
+store-if-requires-2 c κs = ((λ z. let i = beside-inside _ _ (belowOf (c .before .before .before .before .before .before .before .before .before .before .before .before .before .before .before .before .before .before .args .h)) (c .before .before .before .before .before .before .before .before .before .before .before .before .before .before .before .before .before .before .pre .tiles) _ (c .before .before .before .before .before .before .before .before .before .before .before .before .free-to .ensures) (beside-found _ _ (belowOf (c .before .before .before .before .before .before .before .before .before .before .before .before .before .before .before .before .before .before .args .h)) (c .before .before .before .before .before .before .before .before .before .before .before .before .before .before .before .before .before .before .pre .tiles) _ (c .before .before .before .before .before .before .before .before .before .before .before .before .free-to .ensures) (λ y. z (c .before .before .before .before .before .before .before .before .before .before .bytes-at2 .ensures ∙ y))) in (i .0, rw (c .before .before .before .store-if .ensures .long, c .before .before .before .before .before .before .before .drop-list .ensures .long) (i .1))), rw (c .before .before .before .store-if .ensures .sum, c .before .before .before .before .before .before .before .drop-list .ensures .sum, c .before .before .before .before .before .before .before .before .before .new .ensures) (omega (arith, c .before .before .before .before .before .before .before .before .before .before .before .before .before .before .before .before .before .before .fits .fuse)))
+
+finish-requires : tie.Need-finish-requires
+finish-requires c κs = search needs
+
+same-length : tie.Need-same-length
+same-length c = search needs
+
+returns : tie.Need-returns
+returns c = release-acts (c .before .before .before .before .before .before .before .before .before .before .before .before .before .before .before .before .before .before .before .before .before .before .args .img .now) (c .before .before .before .before .before .before .before .before .before .before .before .before .before .before .before .before .before .before .before .before .before .before .args .h) (c .before .before .before .before .before .before .before .before .before .before .before .before .before .before .before .before .before .before .before .before .before .before .args .state) (c .before .before .before .before .before .before .before .before .before .before .before .before .before .before .before .before .before .before .before .before .before .before .args .nbytes) _ (c .before .before .before .before .before .before .before .before .before .before .before .before .before .before .before .before .before .before .before .before .before .before .pre) _ _ (c .before .before .before .before .before .before .before .before .before .before .before .before .before .before .before .before .before .before .before .free-from .ensures) (c .before .before .before .before .before .before .before .before .before .before .before .before .before .before .before .before .free-to .ensures) _ _ _ _ (c .before .before .before .before .before .before .before .before .before .before .before .before .before .before .before .before .before .before .bytes-at .ensures) (c .before .before .before .before .before .before .before .before .before .before .before .before .before .before .bytes-at2 .ensures) (c .before .before .before .before .before .before .before .before .before .before .before .before .before .new .ensures) (c .before .before .before .before .before .before .before .before .before .before .before .drop-list .ensures) (c .before .before .before .before .before .before .before .store-if .ensures) (c .before .before .before .store-if2 .ensures) (c .finish .ensures)
+
+pub release-spec : {M : Type 1} → statement M
+release-spec =
+    tie.close
+    (tie.spec
+    add-free-from
+    free-from-requires
+    bytes-at-requires
+    free-to-requires
+    bytes-at-requires-2
+    add-both
+    add-all
+    new-requires
+    drop-list-requires
+    store-if-requires
+    store-if-requires-2
+    finish-requires
+    same-length
+    returns)

@@ -1,0 +1,211 @@
+// Activate and free: the requests that carry out an on-list. Both take any bytes, any numbers and any fuse.
+ghost use mathlib.Core.Path.{_≡_};
+ghost use mathlib.Core.Bool.{cond, true, _&&_};
+ghost use mathlib.Core.List.{[], _∷_, _++_};
+ghost use Prim.Native.Nat.{_+_, _%_, _≤_, _<_};
+ghost use lib.ListN.{length};
+ghost use lib.Dec.{eqb};
+ghost use Rattle.rules.specs.declared.Request.the-variants.{Activate, Free};
+ghost use Rattle.rules.specs.Lists.{seek};
+ghost use Rattle.rules.specs.Words.{wordBytes, wordValues, mem, store};
+ghost use Rattle.rules.specs.Clumps.{head, headerBytes, isFree, endOf, stateAt, ACTIVE, FREEING, FREE};
+ghost use Rattle.rules.specs.Answers.{granted};
+ghost use Rattle.rules.specs.Stores.{freeStores};
+ghost use Rattle.rules.specs.Requests.{activate, free, Does};
+ghost use Rattle.rules.specs.Reading.{clumpsOf, Tiled};
+ghost use Rattle.word.specs.Runs.{Ran};
+ghost use Rattle.page.specs.Forms.{listAt};
+ghost use Rattle.walk.specs.Forms.{offsetOf, listValid};
+ghost use Rattle.steps.specs.Acts.{Acts};
+ghost use Rattle.steps.specs.Lists.{assignsOf, InImage};
+ghost use Rattle.turn.specs.Turns.{dropOf, storeIf, bytesAt, Turned};
+use page::CLUMPS_AT;
+use page::clump::Clump;
+use rules::Answer;
+use walk::Found;
+use word::Power;
+
+// Activate, in the clump at h.
+fn activate_at(img: &mut [u8], h: usize, offset: u64, fuse: u64) -> Answer
+    requires { ⌜ Tiled (now img) ⌝ }
+    requires { ⌜ h + headerBytes ≤ length (now img) ⌝ }
+    requires { ⌜ h % wordBytes ≡ 0 ⌝ }
+    ensures { λ r. ⌜ Acts (now (img .entry)) (activate (mem (now (img .entry))) (clumpsOf (now (img .entry))) offset (head (mem (now (img .entry))) h)) fuse (now (img .exit)) r ⌝ }
+{
+    let c = Clump::read(img, h);
+    if c.state != Clump::RESERVED {
+        return steps::refusal(Answer::WRONG_STATE);
+    }
+    let l = Clump::list(img, h);
+    if !walk::all_valid(img, l) {
+        return steps::refusal(Answer::BAD_TARGET);
+    }
+    let p = Power::new(fuse);
+    let p1 = word::store(img, p, h + 8, Clump::ACTIVATING);
+    let p2 = steps::finish_activating(img, p1, h, l);
+    steps::finish(p2, offset)
+}
+
+pub fn activate(img: &mut [u8], offset: u64, fuse: u64) -> Answer
+    ensures { λ r. ⌜ Does (now (img .entry)) (Activate offset) fuse (now (img .exit)) r ⌝ }
+{
+    let a = survey::survey(img);
+    if a.answer != Answer::DONE {
+        return a;
+    }
+    let Found::At(h) = walk::find(img, offset) else {
+        return steps::refusal(Answer::NO_CLUMP);
+    };
+    activate_at(img, h, offset, fuse)
+}
+
+// Whether a clump in that state may be freed with that list: an ACTIVE one only where its targets are valid.
+fn may_drop(img: &[u8], state: u64, l: [[u64; 2]; 3]) -> bool
+    requires { ⌜ Tiled (now img) ⌝ }
+    ensures { λ r. ⌜ r ≡ cond (eqb state ACTIVE) (listValid (clumpsOf (now (img .entry))) l) true ⌝ }
+{
+    if state == Clump::ACTIVE {
+        return walk::all_valid(img, l);
+    }
+    true
+}
+
+fn is_free_at(c: Clump, h: usize, at: usize) -> bool
+    ensures { λ r. ⌜ r ≡ (eqb (c .state) FREE && eqb h at) ⌝ }
+{
+    if c.state == Clump::FREE {
+        return h == at;
+    }
+    false
+}
+
+// The FREE clump that starts at an offset, or the image's length.
+fn free_from(img: &[u8], at: usize) -> usize
+    requires { ⌜ Tiled (now img) ⌝ }
+    ensures { λ r. ⌜ r ≡ offsetOf (length (now (img .entry))) (seek (λ k. isFree k && eqb (k .at) at) (clumpsOf (now (img .entry)))) ⌝ }
+{
+    let mut h: usize = CLUMPS_AT;
+    loop {
+        if img.len() <= h {
+            return img.len();
+        }
+        let c = Clump::read(img, h);
+        if is_free_at(c, h, at) {
+            return h;
+        }
+        h += c.nbytes as usize;
+    }
+}
+
+// The FREE clump that ends at an offset, or the image's length.
+fn free_to(img: &[u8], at: usize) -> usize
+    requires { ⌜ Tiled (now img) ⌝ }
+    ensures { λ r. ⌜ r ≡ offsetOf (length (now (img .entry))) (seek (λ k. isFree k && eqb (endOf k) at) (clumpsOf (now (img .entry)))) ⌝ }
+{
+    let mut h: usize = CLUMPS_AT;
+    loop {
+        if img.len() <= h {
+            return img.len();
+        }
+        let c = Clump::read(img, h);
+        let end = h + c.nbytes as usize;
+        if is_free_at(c, end, at) {
+            return h;
+        }
+        h = end;
+    }
+}
+
+// nbytes of the clump at an offset, 0 at the end mark.
+fn bytes_at(img: &[u8], at: usize) -> u64
+    requires { ⌜ (at < length (now img) → (at % wordBytes ≡ 0) × (at + wordBytes ≤ length (now img))) ⌝ }
+    ensures { λ r. ⌜ r ≡ bytesAt (length (now (img .entry))) (mem (now (img .entry))) at ⌝ }
+{
+    if img.len() <= at {
+        return 0;
+    }
+    word::get(img, at)
+}
+
+// One store, if there is a clump to join.
+fn store_if(img: &mut [u8], p: Power, bytes: u64, at: usize, w: u64) -> Power
+    requires { ⌜ ((bytes ≡ 0 → ⊥) → (at % wordBytes ≡ 0) × (at + wordBytes ≤ length (now img))) ⌝ }
+    requires { ⌜ p .made + p .left < wordValues ⌝ }
+    ensures { λ r. ⌜ Ran (now (img .entry)) p (storeIf bytes at w) (now (img .exit)) r ⌝ }
+{
+    if bytes == 0 {
+        return p;
+    }
+    word::store(img, p, at, w)
+}
+
+// What free stores to the clump itself.
+fn drop_list(img: &mut [u8], p: Power, h: usize, state: u64, l: [[u64; 2]; 3]) -> Power
+    requires { ⌜ h + headerBytes ≤ length (now img) ⌝ }
+    requires { ⌜ h % wordBytes ≡ 0 ⌝ }
+    requires { ⌜ (state ≡ ACTIVE → InImage (length (now img)) l) ⌝ }
+    requires { ⌜ p .made + p .left < wordValues ⌝ }
+    ensures { λ r. ⌜ Ran (now (img .entry)) p (dropOf h state l) (now (img .exit)) r ⌝ }
+{
+    if state == Clump::ACTIVE {
+        let p1 = word::store(img, p, h + 8, Clump::FREEING);
+        return steps::finish_freeing(img, p1, h, l);
+    }
+    word::store(img, p, h + 8, Clump::FREE)
+}
+
+// The clump at h freed, and joined to the FREE clumps beside it.
+fn release(
+    img: &mut [u8],
+    h: usize,
+    state: u64,
+    nbytes: u64,
+    l: [[u64; 2]; 3],
+    offset: u64,
+    fuse: u64,
+) -> Answer
+    requires { ⌜ Turned (now img) h state nbytes l ⌝ }
+    ensures { λ r. ⌜ Acts (now (img .entry)) (granted offset (freeStores (mem (now (img .entry))) (clumpsOf (now (img .entry))) (head (mem (now (img .entry))) h))) fuse (now (img .exit)) r ⌝ }
+{
+    let next = bytes_at(img, free_from(img, h + nbytes as usize));
+    let below = free_to(img, h);
+    let under = bytes_at(img, below);
+    let both = nbytes + next;
+    let all = under + both;
+    let p = Power::new(fuse);
+    let p1 = drop_list(img, p, h, state, l);
+    let p2 = store_if(img, p1, next, h, both);
+    let p3 = store_if(img, p2, under, below, all);
+    steps::finish(p3, offset)
+}
+
+// Free, in the clump at h.
+fn free_at(img: &mut [u8], h: usize, offset: u64, fuse: u64) -> Answer
+    requires { ⌜ Tiled (now img) ⌝ }
+    requires { ⌜ h + headerBytes ≤ length (now img) ⌝ }
+    requires { ⌜ (h % wordBytes ≡ 0) × (h + mem (now img) h ≤ length (now img)) ⌝ }
+    ensures { λ r. ⌜ Acts (now (img .entry)) (free (mem (now (img .entry))) (clumpsOf (now (img .entry))) offset (head (mem (now (img .entry))) h)) fuse (now (img .exit)) r ⌝ }
+{
+    let c = Clump::read(img, h);
+    if !judge::waits(c.state) {
+        return steps::refusal(Answer::WRONG_STATE);
+    }
+    let l = Clump::list(img, h);
+    if !may_drop(img, c.state, l) {
+        return steps::refusal(Answer::BAD_TARGET);
+    }
+    release(img, h, c.state, c.nbytes, l, offset, fuse)
+}
+
+pub fn free(img: &mut [u8], offset: u64, fuse: u64) -> Answer
+    ensures { λ r. ⌜ Does (now (img .entry)) (Free offset) fuse (now (img .exit)) r ⌝ }
+{
+    let a = survey::survey(img);
+    if a.answer != Answer::DONE {
+        return a;
+    }
+    let Found::At(h) = walk::find(img, offset) else {
+        return steps::refusal(Answer::NO_CLUMP);
+    };
+    free_at(img, h, offset, fuse)
+}

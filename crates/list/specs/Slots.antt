@@ -1,22 +1,20 @@
 -- The first empty and the last used entry of a list that was read, and a law for each way out of the requests on it.
 -- Assumes nothing.
-use Prim.Native.Nat.{ℕ, _+_, _%_, _<_, _≤_}
-use mathlib.Core.Path.{_≡_, refl, sym, ap, _∙_}
+use Prim.Native.Nat.{ℕ, _+_, _%_, _≤_}
+use mathlib.Core.Path.{_≡_, refl, sym, ap}
 use mathlib.Core.Bool.{Bool, true, false, cond, not}
 use mathlib.Core.Option.{Option, some, none}
 use mathlib.Core.List.{List, [], _∷_}
 use native.Mathlib.Omega.{arith}
 use lib.Dec.{eqb}
-use lib.ListN.{length, getD}
-use borrow.Author.Tests.{eq-eqb, ne-eqb, eqb-true, eqb-false}
-use Rattle.rules.specs.declared.Answer.{Answer}
+use lib.ListN.{getD}
 use Rattle.rules.specs.Lists.{seek, those}
-use Rattle.rules.specs.Words.{Image, Mem, Store, mem, store}
-use Rattle.rules.specs.Clumps.{Head, head, hasState, isWaiting, isEmpty, isUsed, slots, valueAt, usedSlots}
+use Rattle.rules.specs.Words.{Mem, store}
+use Rattle.rules.specs.Clumps.{Head, hasState, isWaiting, isEmpty, slots, usedSlots}
 use Rattle.rules.specs.Sound.{isValid}
-use Rattle.rules.specs.Answers.{Verdict, granted, refuse, test, wrongState, listFull, listEmpty, badTarget, answerAt}
-use Rattle.rules.specs.Stores.{listStores, lastOf, withdrawStores}
-use Rattle.rules.specs.Requests.{listed, enlist, withdrawn, withdraw}
+use Rattle.rules.specs.Answers.{granted, refuse, wrongState, listFull, listEmpty, badTarget}
+use Rattle.rules.specs.Stores.{listStores}
+use Rattle.rules.specs.Requests.{enlist, withdrawn, withdraw}
 use Rattle.page.specs.Forms.{listAt}
 
 -- where the first empty entry stands, 0 for none

@@ -1,26 +1,24 @@
 -- Create's list in two parts, what reserve asks of the clump that was found, and a law for each way out of the two. Assumes nothing.
 use Prim.Native.Nat.{ℕ, _+_, _-_, _*_, _/_, _%_, _<_, _≤_}
-use mathlib.Core.Path.{_≡_, refl, sym, ap, _∙_}
-use mathlib.Core.Bool.{Bool, true, false, cond, not}
-use mathlib.Core.Option.{Option, some, none}
+use mathlib.Core.Path.{_≡_, sym, _∙_}
+use mathlib.Core.Bool.{Bool, true, false, not}
+use mathlib.Core.Option.{some, none}
 use mathlib.Core.List.{List, [], _∷_, _++_, append-assoc}
 use native.Mathlib.Omega.{arith}
-use lib.Dec.{eqb, leb}
 use lib.ListN.{length}
 use borrow.Author.Tests.{eq-eqb, ne-eqb, le-leb, lt-leb, leb-true, not-true, not-false}
 use Rattle.rules.specs.declared.Answer.{Answer}
-use Rattle.rules.specs.declared.Request.the-variants.{Create, Reserve}
+use Rattle.rules.specs.declared.Request.the-variants.{Create}
 use Rattle.rules.specs.Lists.{seek}
 use Rattle.rules.specs.Words.{Image, Mem, Store, mem, store, zeros, wordBytes, wordValues}
 use Rattle.rules.specs.Pages.{pageBytes, staticAt, headerAt, signatureLow, signatureHigh, signatureHighAt, totalAt, paddingAt, paddingWords, clumpsAt, unit, rightLength}
-use Rattle.rules.specs.Clumps.{Head, head, isFree, headerBytes, slots, stateAt, FREE, RESERVED, leastClump, Tiles, walk}
-use Rattle.rules.specs.Answers.{Verdict, granted, refuse, notPool, sizeZero, noRoom, answerAt}
+use Rattle.rules.specs.Clumps.{Head, head, isFree, headerBytes, slots, stateAt, FREE, RESERVED, Tiles, walk}
+use Rattle.rules.specs.Answers.{granted, refuse, notPool, sizeZero, noRoom, answerAt}
 use Rattle.rules.specs.Stores.{createStores, needOf, fits, emptying, leastRest, reserveStores}
 use Rattle.rules.specs.Requests.{Does, reserve, verdict}
 use Rattle.laws.specs.Searches.{and-both, seek-split}
-use Rattle.laws.specs.Walking.{seek-placed}
 use Rattle.walk.specs.Forms.{offsetOf}
-use Rattle.walk.specs.Scans.{offset-none, offset-some, offset-inside}
+use Rattle.walk.specs.Scans.{offset-some, offset-inside}
 use Rattle.steps.specs.Acts.{Acts, acts-refused, acts-does, acts-ran, answerIs}
 use Rattle.steps.specs.Loops.{ran-as}
 use Rattle.word.specs.declared.Power.{Power}

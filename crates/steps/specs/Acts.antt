@@ -11,7 +11,7 @@ use lib.Seq.{take-nil}
 use borrow.Author.Tests.{le-ltb}
 use Rattle.rules.specs.declared.Answer.{Answer}
 use Rattle.rules.specs.declared.Request.{Request}
-use Rattle.rules.specs.Words.{Image, Mem, Store, mem, carry}
+use Rattle.rules.specs.Words.{Image, Store, mem, carry}
 use Rattle.rules.specs.Pages.{isPool}
 use Rattle.rules.specs.Clumps.{Head, walk}
 use Rattle.rules.specs.Sound.{Fault, judge, unsettled}

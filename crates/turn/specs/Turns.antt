@@ -2,26 +2,25 @@
 -- Assumes nothing.
 use Prim.Native.Nat.{ℕ, zero, suc, _+_, _%_, _<_, _≤_}
 use mathlib.Core.Path.{_≡_, refl, sym, ap, ap₂, _∙_}
-use mathlib.Core.Bool.{Bool, true, false, cond, not, _&&_, _||_}
-use mathlib.Core.Option.{Option, some, none}
+use mathlib.Core.Bool.{Bool, true, false, cond, _&&_, _||_}
+use mathlib.Core.Option.{some, none}
 use mathlib.Core.List.{List, [], _∷_, _++_}
-use mathlib.Core.Logic.{_⊎_, inl, inr}
 use native.Mathlib.Omega.{arith}
 use lib.Dec.{eqb, leb, ltb}
 use lib.ListN.{length, getD}
-use borrow.Author.Tests.{eq-eqb, ne-eqb, eqb-true, leb-true, eqb-false, lt-ltb, le-ltb, ltb-true, ltb-false}
+use borrow.Author.Tests.{eq-eqb, ne-eqb, eqb-true, leb-true, eqb-false, lt-ltb, ltb-true, ltb-false}
 use Rattle.rules.specs.Lists.{seek, any, Each}
 use Rattle.rules.specs.Words.{Image, Mem, Store, mem, store, wordBytes, wordValues}
-use Rattle.rules.specs.Pages.{clumpsAt, staticAt, staticEnd, leastLength}
+use Rattle.rules.specs.Pages.{clumpsAt, staticAt, staticEnd}
 use Rattle.rules.specs.Clumps.{Head, head, bodyOf, endOf, isFree, isLive, isWaiting, hasState, stateAt, headerBytes, RESERVED, ACTIVATING, ACTIVE, FREEING, FREE, Tiles, walk}
 use Rattle.rules.specs.Sound.{isEven, lies, isValid, allValid}
 use Rattle.rules.specs.Answers.{granted, refuse, wrongState, badTarget, answerAt}
-use Rattle.rules.specs.Stores.{setState, finishActivating, finishFreeing, activateStores, dropStores, freeAfter, freeBefore, joinBefore, joinBoth, freeStores, emptying}
+use Rattle.rules.specs.Stores.{finishActivating, finishFreeing, activateStores, dropStores, joinBefore, joinBoth, freeStores}
 use Rattle.rules.specs.Requests.{activate, mayDrop, free}
 use Rattle.rules.specs.Reading.{clumpsOf, Tiled}
 use Rattle.laws.specs.Searches.{differ, and-both, seek-split}
 use Rattle.laws.specs.Tilings.{tiles-le}
-use Rattle.laws.specs.Walking.{Inside, Placed, seek-placed, all-placed}
+use Rattle.laws.specs.Walking.{Placed, seek-placed, all-placed}
 use Rattle.page.specs.Forms.{listAt}
 use Rattle.walk.specs.Forms.{offsetOf, listValid}
 use Rattle.walk.specs.Scans.{offset-none, offset-some, offset-inside, list-valid}

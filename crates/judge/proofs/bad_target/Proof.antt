@@ -8,11 +8,6 @@ use Rattle.judge.specs.Judging.{target-idle, target-valid, target-bad}
 use borrow.Author.Needs.{needs}
 use Rattle.judge.proofs.bad_target.Statement.{statement}
 use Rattle.judge.proofs.bad_target.Tie as tie
-use Rattle.judge.proofs.bad_target.Reads as reads
-use Rattle.judge.proofs.bad_target.Lts as lts
-use Rattle.judge.proofs.first_pending.Reads as first-pending-reads
-use Rattle.page.proofs.clump.Clump.list.Reads as list-reads
-use Rattle.walk.proofs.all_valid.Reads as all-valid-reads
 
 first-pending-requires : tie.Need-first-pending-requires
 first-pending-requires c κs = search needs

@@ -11,16 +11,6 @@ use Rattle.list.specs.Slots.{empty-none, empty-some, empty-in, enlist-st
 use borrow.Author.Needs.{needs}
 use Rattle.list.proofs.enlist_at.Statement.{statement}
 use Rattle.list.proofs.enlist_at.Tie as tie
-use Rattle.list.proofs.enlist_at.Reads as reads
-use Rattle.list.proofs.enlist_at.Lts as lts
-use Rattle.list.proofs.empty_slot.Reads as empty-slot-reads
-use Rattle.page.proofs.clump.Clump.list.Reads as list-reads
-use Rattle.page.proofs.clump.Clump.read.Reads as read-reads
-use Rattle.steps.proofs.finish.Reads as finish-reads
-use Rattle.steps.proofs.refusal.Reads as refusal-reads
-use Rattle.walk.proofs.valid.Reads as valid-reads
-use Rattle.word.proofs.Power.new.Reads as new-reads
-use Rattle.word.proofs.store.Reads as store-reads
 
 read-requires : tie.Need-read-requires
 read-requires c κs = search needs

@@ -3,8 +3,6 @@ use borrow.Author.Tests.{eq-eqb, ne-eqb}
 use borrow.Author.Needs.{needs}
 use Rattle.list.proofs.last_slot.Statement.{statement}
 use Rattle.list.proofs.last_slot.Tie as tie
-use Rattle.list.proofs.last_slot.Reads as reads
-use Rattle.list.proofs.last_slot.Lts as lts
 
 index-1-if1 : tie.Need-index-1-if1
 index-1-if1 c = search needs

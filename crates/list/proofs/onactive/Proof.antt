@@ -11,12 +11,6 @@ use Rattle.rules.specs.Clumps.{RESERVED}
 use borrow.Author.Needs.{needs}
 use Rattle.list.proofs.onactive.Statement.{statement}
 use Rattle.list.proofs.onactive.Tie as tie
-use Rattle.list.proofs.onactive.Reads as reads
-use Rattle.list.proofs.onactive.Lts as lts
-use Rattle.list.proofs.enlist_at.Reads as enlist-at-reads
-use Rattle.steps.proofs.refusal.Reads as refusal-reads
-use Rattle.survey.proofs.survey.Reads as survey-reads
-use Rattle.walk.proofs.find.Reads as find-reads
 
 survey-requires : tie.Need-survey-requires
 survey-requires c κs = search needs

@@ -11,12 +11,6 @@ use Rattle.rules.specs.Clumps.{ACTIVE}
 use borrow.Author.Needs.{needs}
 use Rattle.list.proofs.onfree.Statement.{statement}
 use Rattle.list.proofs.onfree.Tie as tie
-use Rattle.list.proofs.onfree.Reads as reads
-use Rattle.list.proofs.onfree.Lts as lts
-use Rattle.list.proofs.enlist_at.Reads as enlist-at-reads
-use Rattle.steps.proofs.refusal.Reads as refusal-reads
-use Rattle.survey.proofs.survey.Reads as survey-reads
-use Rattle.walk.proofs.find.Reads as find-reads
 
 survey-requires : tie.Need-survey-requires
 survey-requires c κs = search needs

@@ -10,12 +10,6 @@ use Rattle.rules.specs.declared.Request.the-variants.{Withdraw}
 use borrow.Author.Needs.{needs}
 use Rattle.list.proofs.withdraw.Statement.{statement}
 use Rattle.list.proofs.withdraw.Tie as tie
-use Rattle.list.proofs.withdraw.Reads as reads
-use Rattle.list.proofs.withdraw.Lts as lts
-use Rattle.list.proofs.withdraw_at.Reads as withdraw-at-reads
-use Rattle.steps.proofs.refusal.Reads as refusal-reads
-use Rattle.survey.proofs.survey.Reads as survey-reads
-use Rattle.walk.proofs.find.Reads as find-reads
 
 survey-requires : tie.Need-survey-requires
 survey-requires c κs = search needs

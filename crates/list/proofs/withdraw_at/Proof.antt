@@ -9,16 +9,6 @@ use Rattle.list.specs.Slots.{last-in, withdraw-state, withdraw-is, withd
 use borrow.Author.Needs.{needs}
 use Rattle.list.proofs.withdraw_at.Statement.{statement}
 use Rattle.list.proofs.withdraw_at.Tie as tie
-use Rattle.list.proofs.withdraw_at.Reads as reads
-use Rattle.list.proofs.withdraw_at.Lts as lts
-use Rattle.judge.proofs.waits.Reads as waits-reads
-use Rattle.list.proofs.last_slot.Reads as last-slot-reads
-use Rattle.page.proofs.clump.Clump.list.Reads as list-reads
-use Rattle.page.proofs.clump.Clump.read.Reads as read-reads
-use Rattle.steps.proofs.finish.Reads as finish-reads
-use Rattle.steps.proofs.refusal.Reads as refusal-reads
-use Rattle.word.proofs.Power.new.Reads as new-reads
-use Rattle.word.proofs.store.Reads as store-reads
 
 read-requires : tie.Need-read-requires
 read-requires c κs = search needs

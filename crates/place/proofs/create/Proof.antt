@@ -7,14 +7,6 @@ use Rattle.place.specs.Places.{create-refused, create-done}
 use borrow.Author.Needs.{needs}
 use Rattle.place.proofs.create.Statement.{statement}
 use Rattle.place.proofs.create.Tie as tie
-use Rattle.place.proofs.create.Reads as reads
-use Rattle.place.proofs.create.Lts as lts
-use Rattle.page.proofs.right_length.Reads as right-length-reads
-use Rattle.place.proofs.write_clump.Reads as write-clump-reads
-use Rattle.place.proofs.write_pages.Reads as write-pages-reads
-use Rattle.steps.proofs.finish.Reads as finish-reads
-use Rattle.steps.proofs.refusal.Reads as refusal-reads
-use Rattle.word.proofs.Power.new.Reads as new-reads
 
 right-length-requires : tie.Need-right-length-requires
 right-length-requires c κs = search needs

@@ -5,8 +5,6 @@ use Rattle.place.specs.Places.{need-is}
 use borrow.Author.Needs.{needs}
 use Rattle.place.proofs.need_of.Statement.{statement}
 use Rattle.place.proofs.need_of.Tie as tie
-use Rattle.place.proofs.need_of.Reads as reads
-use Rattle.place.proofs.need_of.Lts as lts
 
 add-result : tie.Need-add-result
 add-result c = search needs

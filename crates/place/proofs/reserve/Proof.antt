@@ -10,12 +10,6 @@ use Rattle.place.specs.Places.{reserve-zero, reserve-none, reserve-some,
 use borrow.Author.Needs.{needs}
 use Rattle.place.proofs.reserve.Statement.{statement}
 use Rattle.place.proofs.reserve.Tie as tie
-use Rattle.place.proofs.reserve.Reads as reads
-use Rattle.place.proofs.reserve.Lts as lts
-use Rattle.place.proofs.reserve_at.Reads as reserve-at-reads
-use Rattle.steps.proofs.refusal.Reads as refusal-reads
-use Rattle.survey.proofs.survey.Reads as survey-reads
-use Rattle.walk.proofs.first_fit.Reads as first-fit-reads
 
 survey-requires : tie.Need-survey-requires
 survey-requires c κs = search needs

@@ -6,14 +6,6 @@ use Rattle.place.specs.Places.{need-even, need-least, split-acts, whole-
 use borrow.Author.Needs.{needs}
 use Rattle.place.proofs.reserve_at.Statement.{statement}
 use Rattle.place.proofs.reserve_at.Tie as tie
-use Rattle.place.proofs.reserve_at.Reads as reads
-use Rattle.place.proofs.reserve_at.Lts as lts
-use Rattle.place.proofs.need_of.Reads as need-of-reads
-use Rattle.place.proofs.split_off.Reads as split-off-reads
-use Rattle.place.proofs.take_whole.Reads as take-whole-reads
-use Rattle.steps.proofs.finish.Reads as finish-reads
-use Rattle.word.proofs.Power.new.Reads as new-reads
-use Rattle.word.proofs.get.Reads as get-reads
 
 get-requires : tie.Need-get-requires
 get-requires c κs = let d = need-even (c .before .before .args .size) in let g = need-least (c .before .before .args .size) in let i = c .before .before .pre in (omega arith, omega arith)

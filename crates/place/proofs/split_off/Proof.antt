@@ -4,10 +4,6 @@ use Rattle.word.specs.Runs.{ran-then}
 use borrow.Author.Needs.{needs}
 use Rattle.place.proofs.split_off.Statement.{statement}
 use Rattle.place.proofs.split_off.Tie as tie
-use Rattle.place.proofs.split_off.Reads as reads
-use Rattle.place.proofs.split_off.Lts as lts
-use Rattle.steps.proofs.empty_targets.Reads as empty-targets-reads
-use Rattle.word.proofs.store.Reads as store-reads
 
 add-store : tie.Need-add-store
 add-store c = search needs

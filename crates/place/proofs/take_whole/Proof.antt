@@ -3,10 +3,6 @@ use Rattle.word.specs.Runs.{ran-then}
 use borrow.Author.Needs.{needs}
 use Rattle.place.proofs.take_whole.Statement.{statement}
 use Rattle.place.proofs.take_whole.Tie as tie
-use Rattle.place.proofs.take_whole.Reads as reads
-use Rattle.place.proofs.take_whole.Lts as lts
-use Rattle.steps.proofs.empty_targets.Reads as empty-targets-reads
-use Rattle.word.proofs.store.Reads as store-reads
 
 empty-targets-requires : tie.Need-empty-targets-requires
 empty-targets-requires c κs = search needs

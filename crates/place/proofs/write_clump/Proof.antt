@@ -4,10 +4,6 @@ use Rattle.page.specs.Pool.{low-is}
 use borrow.Author.Needs.{needs}
 use Rattle.place.proofs.write_clump.Statement.{statement}
 use Rattle.place.proofs.write_clump.Tie as tie
-use Rattle.place.proofs.write_clump.Reads as reads
-use Rattle.place.proofs.write_clump.Lts as lts
-use Rattle.steps.proofs.zero_words.Reads as zero-words-reads
-use Rattle.word.proofs.store.Reads as store-reads
 
 zero-words-requires : tie.Need-zero-words-requires
 zero-words-requires c κs = search needs

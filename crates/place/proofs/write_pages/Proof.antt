@@ -4,10 +4,6 @@ use Rattle.page.specs.Pool.{high-is}
 use borrow.Author.Needs.{needs}
 use Rattle.place.proofs.write_pages.Statement.{statement}
 use Rattle.place.proofs.write_pages.Tie as tie
-use Rattle.place.proofs.write_pages.Reads as reads
-use Rattle.place.proofs.write_pages.Lts as lts
-use Rattle.steps.proofs.zero_words.Reads as zero-words-reads
-use Rattle.word.proofs.store.Reads as store-reads
 
 store-requires : tie.Need-store-requires
 store-requires c κs = search needs

@@ -11,9 +11,6 @@ use Rattle.steps.specs.Lists.{assignsOf}
 use Rattle.steps.specs.Loops.{assign-step, assign-pass}
 use Rattle.steps.proofs.assign.Statement.{statement}
 use Rattle.steps.proofs.assign.Tie as tie
-use Rattle.steps.proofs.assign.Reads as reads
-use Rattle.steps.proofs.assign.Lts as lts
-use Rattle.word.proofs.store.Reads as store-reads
 
 abbrev Inv-loop : tie.InvT-loop
 Inv-loop img₀ l q₀ i₀ img q i = (i ≤ 3) × Ran img₀ q₀ (assignsOf (take i l)) img q

@@ -3,9 +3,6 @@ use Rattle.word.specs.Runs.{ran-then}
 use borrow.Author.Needs.{needs}
 use Rattle.steps.proofs.empty_targets.Statement.{statement}
 use Rattle.steps.proofs.empty_targets.Tie as tie
-use Rattle.steps.proofs.empty_targets.Reads as reads
-use Rattle.steps.proofs.empty_targets.Lts as lts
-use Rattle.word.proofs.store.Reads as store-reads
 
 add-store : tie.Need-add-store
 add-store c = search needs

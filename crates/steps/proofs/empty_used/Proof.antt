@@ -11,9 +11,6 @@ use Rattle.steps.specs.Lists.{emptiesOf}
 use Rattle.steps.specs.Loops.{empty-step, empty-pass}
 use Rattle.steps.proofs.empty_used.Statement.{statement}
 use Rattle.steps.proofs.empty_used.Tie as tie
-use Rattle.steps.proofs.empty_used.Reads as reads
-use Rattle.steps.proofs.empty_used.Lts as lts
-use Rattle.word.proofs.store.Reads as store-reads
 
 abbrev Inv-loop : tie.InvT-loop
 Inv-loop img₀ h l q₀ at₀ i₀ img q at i = (i ≤ 3) × (at ≡ h + 16 + 16 * i) × Ran img₀ q₀ (emptiesOf (h + 16) (take i l)) img q

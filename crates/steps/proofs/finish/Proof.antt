@@ -1,8 +1,6 @@
 -- `finish`: by the cut. Assumes nothing.
 use Rattle.steps.proofs.finish.Statement.{statement}
 use Rattle.steps.proofs.finish.Tie as tie
-use Rattle.steps.proofs.finish.Reads as reads
-use Rattle.steps.proofs.finish.Lts as lts
 
 returns : tie.Need-returns
 returns c = rw (c .if1 .taken)

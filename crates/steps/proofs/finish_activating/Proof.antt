@@ -3,11 +3,6 @@ use Rattle.word.specs.Runs.{ran-then}
 use borrow.Author.Needs.{needs}
 use Rattle.steps.proofs.finish_activating.Statement.{statement}
 use Rattle.steps.proofs.finish_activating.Tie as tie
-use Rattle.steps.proofs.finish_activating.Reads as reads
-use Rattle.steps.proofs.finish_activating.Lts as lts
-use Rattle.steps.proofs.assign.Reads as assign-reads
-use Rattle.steps.proofs.empty_used.Reads as empty-used-reads
-use Rattle.word.proofs.store.Reads as store-reads
 
 assign-requires : tie.Need-assign-requires
 assign-requires c κs = search needs

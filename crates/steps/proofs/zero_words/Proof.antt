@@ -8,9 +8,6 @@ use Rattle.word.specs.Runs.{Ran, ran-none}
 use Rattle.steps.specs.Loops.{zeros-step}
 use Rattle.steps.proofs.zero_words.Statement.{statement}
 use Rattle.steps.proofs.zero_words.Tie as tie
-use Rattle.steps.proofs.zero_words.Reads as reads
-use Rattle.steps.proofs.zero_words.Lts as lts
-use Rattle.word.proofs.store.Reads as store-reads
 
 abbrev Inv-loop : tie.InvT-loop
 Inv-loop img₀ from count q₀ at₀ i₀ img q at i = (i ≤ count) × (at ≡ from + wordBytes * i) × Ran img₀ q₀ (zeros from i) img q

@@ -10,12 +10,6 @@ use Rattle.rules.specs.declared.Request.the-variants.{Activate}
 use borrow.Author.Needs.{needs}
 use Rattle.turn.proofs.activate.Statement.{statement}
 use Rattle.turn.proofs.activate.Tie as tie
-use Rattle.turn.proofs.activate.Reads as reads
-use Rattle.turn.proofs.activate.Lts as lts
-use Rattle.steps.proofs.refusal.Reads as refusal-reads
-use Rattle.survey.proofs.survey.Reads as survey-reads
-use Rattle.turn.proofs.activate_at.Reads as activate-at-reads
-use Rattle.walk.proofs.find.Reads as find-reads
 
 survey-requires : tie.Need-survey-requires
 survey-requires c κs = search needs

@@ -12,16 +12,6 @@ use Rattle.turn.specs.Turns.{list-in, activate-state, activate-bad, acti
 use borrow.Author.Needs.{needs}
 use Rattle.turn.proofs.activate_at.Statement.{statement}
 use Rattle.turn.proofs.activate_at.Tie as tie
-use Rattle.turn.proofs.activate_at.Reads as reads
-use Rattle.turn.proofs.activate_at.Lts as lts
-use Rattle.page.proofs.clump.Clump.list.Reads as list-reads
-use Rattle.page.proofs.clump.Clump.read.Reads as read-reads
-use Rattle.steps.proofs.finish.Reads as finish-reads
-use Rattle.steps.proofs.finish_activating.Reads as finish-activating-reads
-use Rattle.steps.proofs.refusal.Reads as refusal-reads
-use Rattle.walk.proofs.all_valid.Reads as all-valid-reads
-use Rattle.word.proofs.Power.new.Reads as new-reads
-use Rattle.word.proofs.store.Reads as store-reads
 
 read-requires : tie.Need-read-requires
 read-requires c κs = search needs

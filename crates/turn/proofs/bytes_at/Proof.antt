@@ -2,9 +2,6 @@
 use borrow.Author.Tests.{lt-ltb, le-ltb}
 use Rattle.turn.proofs.bytes_at.Statement.{statement}
 use Rattle.turn.proofs.bytes_at.Tie as tie
-use Rattle.turn.proofs.bytes_at.Reads as reads
-use Rattle.turn.proofs.bytes_at.Lts as lts
-use Rattle.word.proofs.get.Reads as get-reads
 
 returns : tie.Need-returns
 returns c = rw (le-ltb _ _ (c .if1 .taken))

@@ -5,10 +5,6 @@ use Rattle.word.specs.Runs.{ran-then}
 use borrow.Author.Needs.{needs}
 use Rattle.turn.proofs.drop_list.Statement.{statement}
 use Rattle.turn.proofs.drop_list.Tie as tie
-use Rattle.turn.proofs.drop_list.Reads as reads
-use Rattle.turn.proofs.drop_list.Lts as lts
-use Rattle.steps.proofs.finish_freeing.Reads as finish-freeing-reads
-use Rattle.word.proofs.store.Reads as store-reads
 
 add-store : tie.Need-add-store
 add-store c = search needs

@@ -1,5 +1,4 @@
 -- `free_at`: a law for each way out. Assumes nothing.
-use native.Mathlib.Omega.{arith}
 use mathlib.Core.Path.{sym, _∙_}
 use borrow.Author.Tests.{not-true, not-false}
 use Rattle.rules.specs.Words.{mem}
@@ -10,14 +9,6 @@ use Rattle.turn.specs.Turns.{may-drop, drop-valid, free-state, free-bad,
 use borrow.Author.Needs.{needs}
 use Rattle.turn.proofs.free_at.Statement.{statement}
 use Rattle.turn.proofs.free_at.Tie as tie
-use Rattle.turn.proofs.free_at.Reads as reads
-use Rattle.turn.proofs.free_at.Lts as lts
-use Rattle.judge.proofs.waits.Reads as waits-reads
-use Rattle.page.proofs.clump.Clump.list.Reads as list-reads
-use Rattle.page.proofs.clump.Clump.read.Reads as read-reads
-use Rattle.steps.proofs.refusal.Reads as refusal-reads
-use Rattle.turn.proofs.may_drop.Reads as may-drop-reads
-use Rattle.turn.proofs.release.Reads as release-reads
 
 read-requires : tie.Need-read-requires
 read-requires c κs = search needs

@@ -14,10 +14,6 @@ use Rattle.walk.specs.Forms.{offsetOf}
 use Rattle.turn.specs.Turns.{startsAt}
 use Rattle.turn.proofs.free_from.Statement.{statement}
 use Rattle.turn.proofs.free_from.Tie as tie
-use Rattle.turn.proofs.free_from.Reads as reads
-use Rattle.turn.proofs.free_from.Lts as lts
-use Rattle.page.proofs.clump.Clump.read.Reads as read-reads
-use Rattle.turn.proofs.is_free_at.Reads as is-free-at-reads
 
 abbrev Inv-loop : tie.InvT-loop
 Inv-loop img at h₀ h = Tiled img × Walking (λ hs. offsetOf (length img) (seek (startsAt at) hs)) (length img) (mem img) h (offsetOf (length img) (seek (startsAt at) (clumpsOf img)))

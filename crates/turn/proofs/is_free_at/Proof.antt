@@ -2,8 +2,6 @@
 use borrow.Author.Tests.{eq-eqb, ne-eqb}
 use Rattle.turn.proofs.is_free_at.Statement.{statement}
 use Rattle.turn.proofs.is_free_at.Tie as tie
-use Rattle.turn.proofs.is_free_at.Reads as reads
-use Rattle.turn.proofs.is_free_at.Lts as lts
 
 returns : tie.Need-returns
 returns c = rw (eq-eqb _ _ (c .if1 .taken))

@@ -3,9 +3,6 @@ use borrow.Author.Tests.{eq-eqb, ne-eqb}
 use borrow.Author.Needs.{needs}
 use Rattle.turn.proofs.may_drop.Statement.{statement}
 use Rattle.turn.proofs.may_drop.Tie as tie
-use Rattle.turn.proofs.may_drop.Reads as reads
-use Rattle.turn.proofs.may_drop.Lts as lts
-use Rattle.walk.proofs.all_valid.Reads as all-valid-reads
 
 all-valid-requires : tie.Need-all-valid-requires
 all-valid-requires c κs = search needs

@@ -1,22 +1,11 @@
 -- `release`: the clumps beside are found before the first store; then three runs, one after the other. Assumes nothing.
-use Rattle.turn.specs.Turns.{release-acts, startsAt, belowOf, beside-inside, beside-found, next-room, under-room, list-in, free-stores}
+use Rattle.turn.specs.Turns.{release-acts, startsAt, belowOf, beside-inside, beside-found, next-room, under-room, list-in}
 use native.Mathlib.Omega.{arith}
 use Prim.Native.Nat.{_+_}
 use mathlib.Core.Path.{_∙_}
-use Rattle.steps.specs.Acts.{acts-ran}
-use Rattle.word.specs.Runs.{ran-then}
 use borrow.Author.Needs.{needs}
 use Rattle.turn.proofs.release.Statement.{statement}
 use Rattle.turn.proofs.release.Tie as tie
-use Rattle.turn.proofs.release.Reads as reads
-use Rattle.turn.proofs.release.Lts as lts
-use Rattle.steps.proofs.finish.Reads as finish-reads
-use Rattle.turn.proofs.bytes_at.Reads as bytes-at-reads
-use Rattle.turn.proofs.drop_list.Reads as drop-list-reads
-use Rattle.turn.proofs.free_from.Reads as free-from-reads
-use Rattle.turn.proofs.free_to.Reads as free-to-reads
-use Rattle.turn.proofs.store_if.Reads as store-if-reads
-use Rattle.word.proofs.Power.new.Reads as new-reads
 
 add-free-from : tie.Need-add-free-from
 add-free-from c = search needs

@@ -4,9 +4,6 @@ use Rattle.word.specs.Runs.{ran-none}
 use borrow.Author.Needs.{needs}
 use Rattle.turn.proofs.store_if.Statement.{statement}
 use Rattle.turn.proofs.store_if.Tie as tie
-use Rattle.turn.proofs.store_if.Reads as reads
-use Rattle.turn.proofs.store_if.Lts as lts
-use Rattle.word.proofs.store.Reads as store-reads
 
 returns : tie.Need-returns
 returns c = rw (eq-eqb _ _ (c .if1 .taken)) (ran-none _ _)

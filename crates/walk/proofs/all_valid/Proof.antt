@@ -10,9 +10,6 @@ use Rattle.walk.specs.Forms.{listValid}
 use Rattle.walk.specs.Scans.{valid-stop, valid-go, valid-end}
 use Rattle.walk.proofs.all_valid.Statement.{statement}
 use Rattle.walk.proofs.all_valid.Tie as tie
-use Rattle.walk.proofs.all_valid.Reads as reads
-use Rattle.walk.proofs.all_valid.Lts as lts
-use Rattle.walk.proofs.entry_valid.Reads as entry-valid-reads
 
 abbrev Inv-loop : tie.InvT-loop
 Inv-loop img l i₀ i = (i ≤ 3) × Tiled img × (listValid (clumpsOf img) (drop i l) ≡ listValid (clumpsOf img) l)

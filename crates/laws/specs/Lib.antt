@@ -7,3 +7,6 @@ pub mod Pools
 pub mod Totals
 pub mod Headers
 pub mod Independence
+pub mod Stored
+pub mod Mending
+pub mod Joins

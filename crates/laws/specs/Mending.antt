@@ -1,0 +1,230 @@
+-- Recovery, part by part: what the headers are after the unfinished clump is finished, and after RESERVED clumps are released.
+-- By induction on the clumps, with one law for each kind of store. Assumes nothing.
+use Prim.Native.Nat.{ℕ, _+_, _<_, _≤_}
+use mathlib.Core.Path.{_≡_, refl, sym, ap, ap₂, _∙_, subst}
+use mathlib.Core.Bool.{Bool, true, false, cond, not, _&&_, _||_}
+use mathlib.Core.Option.{Option, some, none}
+use mathlib.Core.List.{List, [], _∷_, _++_, map}
+use native.Mathlib.Omega.{arith}
+use lib.Dec.{eqb}
+use Rattle.rules.specs.Lists.{seek, those, all, Each}
+use Rattle.rules.specs.Words.{Mem, Store, upd, after}
+use Rattle.rules.specs.Pages.{clumpsAt}
+use Rattle.rules.specs.Clumps.{Head, Tiles, stateAt, hasState, isPending, isUsed, slots, usedSlots, entry, entries, FREE, RESERVED, ACTIVATING, ACTIVE, FREEING}
+use Rattle.rules.specs.Sound.{Fault, faultAt, second, secondFault, isValid, allValid, invalid, targetFault}
+use Rattle.rules.specs.Stores.{setState, emptying, finishActivating, finishFreeing, finishing, releasing, released}
+use Rattle.word.specs.Memory.{upd-same, upd-other, after-append}
+use Rattle.laws.specs.Searches.{differ, some-none, or-neither, and-both, Split, seek-split, seek-none, each-map}
+use Rattle.laws.specs.Totals.{five}
+use Rattle.laws.specs.Walks.{Reads}
+use Rattle.laws.specs.Stored.{withState, Clear, clear-below, clear-header, reads-upd, reads-after, reads-state, valid-clear}
+
+-- the clump once it is finished, and once it is released
+abbrev pub settle : Head → Head
+settle h = withState h (cond (hasState ACTIVATING h) ACTIVE (cond (hasState FREEING h) FREE (h .state)))
+
+abbrev pub freed : Head → Head
+freed h = withState h (cond (hasState RESERVED h) FREE (h .state))
+
+pub map-released : (a b : ℕ) (hs : List Head) → Tiles a hs b → map freed (map settle hs) ≡ map released hs
+map-released a b [] t = refl
+map-released a b (h ∷ hs) t =
+    ap₂ _∷_
+    (five (λ s. freed (settle (record { at = h .at; nbytes = h .nbytes; state = s })) ≡ released (record { at = h .at; nbytes = h .nbytes; state = s })) refl refl refl refl refl (h .state) (t .0 .known))
+    (map-released (a + h .nbytes) b hs (t .1))
+
+pub tiles-settle : (a b : ℕ) (hs : List Head) → Tiles a hs b → Tiles a (map settle hs) b
+tiles-settle a b [] t = t
+tiles-settle a b (h ∷ hs) t = (
+  record {
+    here = t .0 .here;
+    least = t .0 .least;
+    whole = t .0 .whole;
+    known = five (λ s. settle (record { at = h .at; nbytes = h .nbytes; state = s }) .state ≤ FREEING) (omega arith) (omega arith) (omega arith) (omega arith) (omega arith) (h .state) (t .0 .known);
+  },
+  tiles-settle (a + h .nbytes) b hs (t .1),
+)
+
+pub tiles-freed : (a b : ℕ) (hs : List Head) → Tiles a hs b → Tiles a (map freed hs) b
+tiles-freed a b [] t = t
+tiles-freed a b (h ∷ hs) t = (
+  record {
+    here = t .0 .here;
+    least = t .0 .least;
+    whole = t .0 .whole;
+    known = five (λ s. freed (record { at = h .at; nbytes = h .nbytes; state = s }) .state ≤ FREEING) (omega arith) (omega arith) (omega arith) (omega arith) (omega arith) (h .state) (t .0 .known);
+  },
+  tiles-freed (a + h .nbytes) b hs (t .1),
+)
+
+-- a clump that is not unfinished stays
+settle-idle : (h : Head) → isPending h ≡ false → settle h ≡ h
+settle-idle h e = let x = or-neither (hasState ACTIVATING h) (hasState FREEING h) e in ap (withState h) (rw (x .0, x .1))
+
+map-idle : (hs : List Head) → Each (λ h. isPending h ≡ false) hs → map settle hs ≡ hs
+map-idle [] e = refl
+map-idle (h ∷ hs) e = ap₂ _∷_ (settle-idle h (e .0)) (map-idle hs (e .1))
+
+map-split : (p : List Head) (h : Head) (q : List Head) → Each (λ k. isPending k ≡ false) p → Each (λ k. isPending k ≡ false) q → map settle (p ++ (h ∷ q)) ≡ p ++ (settle h ∷ q)
+map-split [] h q e f = ap (λ (ks : List Head). settle h ∷ ks) (map-idle q f)
+map-split (k ∷ p) h q e f = ap₂ _∷_ (settle-idle k (e .0)) (map-split p h q (e .1) f)
+
+-- the one unfinished clump: no other is
+those-pass : (p q : List Head) → Each (λ k. isPending k ≡ false) p → those isPending (p ++ q) ≡ those isPending q
+unfolding those
+those-pass [] q e = refl
+those-pass (k ∷ p) q e = rw (e .0) (those-pass p q (e .1))
+
+those-none : (hs : List Head) → those isPending hs ≡ [] → Each (λ k. isPending k ≡ false) hs
+unfolding those
+those-none [] e = tt
+those-none (h ∷ hs) e = go (isPending h) refl e (those-none hs)
+  where
+    go : (t : Bool) → isPending h ≡ t → cond t (h ∷ those isPending hs) (those isPending hs) ≡ [] → (those isPending hs ≡ [] → Each (λ k. isPending k ≡ false) hs) → Each (λ k. isPending k ≡ false) (h ∷ hs)
+    go true q f ih = absurd (let z : _≡_ {A = ℕ} 0 1 = cc in omega arith)
+    go false q f ih = (q, ih f)
+
+second-none : (h : Head) (ks : List Head) → second (h ∷ ks) ≡ none → ks ≡ []
+second-none h [] e = refl
+second-none h (k ∷ ks) e = some-none refl e
+
+others-idle : (p : List Head) (h : Head) (q : List Head) → secondFault (p ++ (h ∷ q)) ≡ none → Each (λ k. isPending k ≡ false) p → isPending h ≡ true → Each (λ k. isPending k ≡ false) q
+unfolding secondFault those
+others-idle p h q e f g = those-none q (second-none h (those isPending q) (rw (those-pass p (h ∷ q) f, g) at e))
+
+-- the targets that are carried out miss the headers
+targets-valid : (m : Mem) (hs : List Head) (h : Head) → seek isPending hs ≡ some h → targetFault m hs ≡ none → allValid m hs h ≡ true
+unfolding targetFault
+targets-valid m hs h e f = go (allValid m hs h) refl (rw e at f)
+  where
+    go : (t : Bool) → allValid m hs h ≡ t → cond t none (some (faultAt 5 h)) ≡ none → allValid m hs h ≡ true
+    go true q g = q
+    go false q g = some-none refl g
+
+all-each : (q : ℕ → Bool) (sl : List ℕ) → all q sl ≡ true → Each (λ s. q s ≡ true) sl
+unfolding all
+all-each q [] e = tt
+all-each q (s ∷ sl) e = let x = and-both (q s) (all q sl) e in (x .0, all-each q sl (x .1))
+
+entries-clear : (n : ℕ) (m : Mem) (hs : List Head) (sl : List ℕ) → Tiles clumpsAt hs n → Each (λ s. isValid hs (m s) ≡ true) sl → Each (λ s. Clear (s .to) hs) (map (entry m) sl)
+entries-clear n m hs [] t e = tt
+entries-clear n m hs (s ∷ sl) t e = (valid-clear n (m s) hs t (e .0), entries-clear n m hs sl t (e .1))
+
+emptying-clear : (m : Mem) (a b : ℕ) (p : List Head) (h : Head) (q : List Head) (sl : List ℕ) → Tiles a (p ++ (h ∷ q)) b → Each (λ s. (h .at + 16 ≤ s) × (s < h .at + h .nbytes)) sl → Each (λ s. Clear (s .to) (p ++ (h ∷ q))) (emptying (those (isUsed m) sl))
+unfolding those
+emptying-clear m a b p h q [] t e = tt
+emptying-clear m a b p h q (s ∷ sl) t e = go (isUsed m s) (emptying-clear m a b p h q sl t (e .1))
+  where
+    go :
+        (u : Bool)
+        → Each (λ x. Clear (x .to) (p ++ (h ∷ q))) (emptying (those (isUsed m) sl))
+        → Each (λ x. Clear (x .to) (p ++ (h ∷ q))) (emptying (cond u (s ∷ those (isUsed m) sl) (those (isUsed m) sl)))
+    go true r = (clear-header a b s p h q t (e .0 .0) (e .0 .1), r)
+    go false r = r
+
+-- the headers after the unfinished clump is finished
+module _ (n : ℕ) (m : Mem) (p : List Head) (h : Head) (q : List Head) (t : Tiles clumpsAt (p ++ (h ∷ q)) n) (r : Reads m (p ++ (h ∷ q))) (v : allValid m (p ++ (h ∷ q)) h ≡ true) where
+  assigned : Reads (after m (entries m (h .at))) (p ++ (h ∷ q))
+  unfolding allValid
+  assigned = reads-after m (entries m (h .at)) (p ++ (h ∷ q)) (entries-clear n m (p ++ (h ∷ q)) (usedSlots m (h .at)) t (all-each (λ s. isValid (p ++ (h ∷ q)) (m s)) (usedSlots m (h .at)) v)) r
+
+  pub activated : 64 ≤ h .nbytes → Reads (after m (finishActivating m h)) (p ++ (withState h ACTIVE ∷ q))
+  unfolding finishActivating after
+  activated l =
+      rw (after-append m (entries m (h .at)) (emptying (usedSlots m (h .at)) ++ (setState h ACTIVE ∷ [])), after-append (after m (entries m (h .at))) (emptying (usedSlots m (h .at))) (setState h ACTIVE ∷ []))
+      (reads-state _ ACTIVE clumpsAt n p h q t
+      (reads-after _ (emptying (usedSlots m (h .at))) (p ++ (h ∷ q))
+      (emptying-clear m clumpsAt n p h q (slots (h .at)) t ((omega arith, omega arith), ((omega arith, omega arith), ((omega arith, omega arith), tt)))) assigned))
+
+  pub dropped : Reads (after m (finishFreeing m h)) (p ++ (withState h FREE ∷ q))
+  unfolding finishFreeing after
+  dropped = rw (after-append m (entries m (h .at)) (setState h FREE ∷ [])) (reads-state _ FREE clumpsAt n p h q t assigned)
+
+tiles-at : (a b : ℕ) (p : List Head) (h : Head) (q : List Head) → Tiles a (p ++ (h ∷ q)) b → 128 ≤ h .nbytes
+tiles-at a b [] h q t = t .0 .least
+tiles-at a b (k ∷ p) h q t = tiles-at (a + k .nbytes) b p h q (t .1)
+
+pub finish-reads : (n : ℕ) (m : Mem) (hs : List Head) → Tiles clumpsAt hs n → Reads m hs → secondFault hs ≡ none → targetFault m hs ≡ none → Reads (after m (finishing m (seek isPending hs))) (map settle hs)
+unfolding after
+finish-reads n m hs t r s f = go (seek isPending hs) refl
+  where
+    go : (o : Option Head) → seek isPending hs ≡ o → Reads (after m (finishing m o)) (map settle hs)
+    go none e = rw (map-idle hs (seek-none isPending hs e)) r
+    go (some h) e =
+        let x = seek-split isPending hs h e in
+        let w = x .whole in
+        let t′ = subst (λ (ks : List Head). Tiles clumpsAt ks n) w t in
+        let r′ = subst (Reads m) w r in
+        let v′ = subst (λ (ks : List Head). allValid m ks h ≡ true) w (targets-valid m hs h e f) in
+        let i = others-idle (x .lower) h (x .higher) (subst (λ (ks : List Head). secondFault ks ≡ none) w s) (x .before) (x .passes) in
+        let l = tiles-at clumpsAt n (x .lower) h (x .higher) t′ in
+        subst (λ (ks : List Head). Reads (after m (finishing m (some h))) (map settle ks)) (sym w)
+        (rw (map-split (x .lower) h (x .higher) (x .before) i) (pick x t′ r′ v′ l (hasState ACTIVATING h) refl))
+      where
+        pick :
+            (x : Split isPending hs h)
+            → (t′ : Tiles clumpsAt (x .lower ++ (h ∷ x .higher)) n)
+            → Reads m (x .lower ++ (h ∷ x .higher))
+            → allValid m (x .lower ++ (h ∷ x .higher)) h ≡ true
+            → 128 ≤ h .nbytes
+            → (b : Bool)
+            → hasState ACTIVATING h ≡ b
+            → Reads (after m (cond b (finishActivating m h) (finishFreeing m h))) (x .lower ++ (withState h (cond b ACTIVE (cond (hasState FREEING h) FREE (h .state))) ∷ x .higher))
+        pick x t′ r′ v′ l true q = activated n m (x .lower) h (x .higher) t′ r′ v′ (omega arith)
+        pick x t′ r′ v′ l false q =
+            let y : hasState FREEING h ≡ true = rw q at (x .passes) in
+            rw y (dropped n m (x .lower) h (x .higher) t′ r′ v′)
+
+-- the headers after RESERVED clumps are released, upward
+pub releasing-cons : (h : Head) (hs : List Head) → releasing (h ∷ hs) ≡ cond (hasState RESERVED h) (setState h FREE ∷ []) [] ++ releasing hs
+unfolding releasing those
+releasing-cons h hs = go (hasState RESERVED h)
+  where
+    go : (t : Bool) → map (λ k. setState k FREE) (cond t (h ∷ those (hasState RESERVED) hs) (those (hasState RESERVED) hs)) ≡ cond t (setState h FREE ∷ []) [] ++ releasing hs
+    go true = refl
+    go false = refl
+
+release-miss : (hs : List Head) (m : Mem) (a b o : ℕ) → Tiles a hs b → o < a → after m (releasing hs) o ≡ m o
+unfolding after releasing those
+release-miss [] m a b o t l = refl
+release-miss (h ∷ hs) m a b o t l = go (hasState RESERVED h) (λ k. release-miss hs k (a + h .nbytes) b o (t .1) (omega arith))
+  where
+    go : (u : Bool) → ((k : Mem) → after k (releasing hs) o ≡ k o) → after m (map (λ k. setState k FREE) (cond u (h ∷ those (hasState RESERVED) hs) (those (hasState RESERVED) hs))) o ≡ m o
+    go true ih = ih (upd m (stateAt (h .at)) FREE) ∙ upd-other m (stateAt (h .at)) FREE o (omega (arith, t .0 .here))
+    go false ih = ih m
+
+pub release-reads : (hs : List Head) (m : Mem) (a b : ℕ) → Tiles a hs b → Reads m hs → Reads (after m (releasing hs)) (map freed hs)
+unfolding after releasing those
+release-reads [] m a b t r = tt
+release-reads (h ∷ hs) m a b t r = go (hasState RESERVED h) refl (λ k. release-reads hs k (a + h .nbytes) b (t .1))
+  where
+    go :
+        (u : Bool)
+        → hasState RESERVED h ≡ u
+        → ((k : Mem) → Reads k hs → Reads (after k (releasing hs)) (map freed hs))
+        → Reads (after m (map (λ k. setState k FREE) (cond u (h ∷ those (hasState RESERVED) hs) (those (hasState RESERVED) hs)))) (withState h (cond u FREE (h .state)) ∷ map freed hs)
+    go true e ih =
+        let m′ = upd m (stateAt (h .at)) FREE in
+        let l = t .0 .least in
+        let k = t .0 .here in (
+          release-miss hs m′ (a + h .nbytes) b (h .at) (t .1) (omega arith) ∙ upd-other m (stateAt (h .at)) FREE (h .at) (omega arith) ∙ r .0,
+          release-miss hs m′ (a + h .nbytes) b (stateAt (h .at)) (t .1) (omega arith) ∙ upd-same m (stateAt (h .at)) FREE,
+          ih m′ (reads-upd m (stateAt (h .at)) FREE hs (clear-below (stateAt (h .at)) (a + h .nbytes) b hs (t .1) (omega arith)) (r .2)),
+        )
+    go false e ih =
+        let l = t .0 .least in
+        let k = t .0 .here in (
+          release-miss hs m (a + h .nbytes) b (h .at) (t .1) (omega arith) ∙ r .0,
+          release-miss hs m (a + h .nbytes) b (stateAt (h .at)) (t .1) (omega arith) ∙ r .1,
+          ih m (r .2),
+        )
+
+-- what is released is the same, whether the unfinished clump was finished before or not
+pub releasing-settle : (a b : ℕ) (hs : List Head) → Tiles a hs b → releasing (map settle hs) ≡ releasing hs
+releasing-settle a b [] t = refl
+releasing-settle a b (h ∷ hs) t =
+    releasing-cons (settle h) (map settle hs)
+    ∙ ap₂ _++_
+    (five (λ s. cond (hasState RESERVED (settle (record { at = h .at; nbytes = h .nbytes; state = s }))) (setState h FREE ∷ []) [] ≡ cond (eqb s RESERVED) (setState h FREE ∷ []) []) refl refl refl refl refl (h .state) (t .0 .known))
+    (releasing-settle (a + h .nbytes) b hs (t .1))
+    ∙ sym (releasing-cons h hs)

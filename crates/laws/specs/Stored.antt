@@ -1,0 +1,128 @@
+-- What stores do to the headers that a memory holds: a store that misses every size and state word keeps them, a valid target misses
+-- them all, and a store of a state changes one clump. By induction on the clumps. Assumes nothing.
+use Prim.Native.Nat.{ℕ, _+_, _<_, _≤_}
+use mathlib.Core.Path.{_≡_, refl, sym, ap, ap₂, _∙_}
+use mathlib.Core.Bool.{Bool, true, false, cond, _&&_, _||_}
+use mathlib.Core.List.{List, [], _∷_, _++_, map}
+use native.Mathlib.Omega.{arith}
+use lib.Dec.{leb}
+use borrow.Author.Tests.{leb-true}
+use Rattle.rules.specs.Lists.{any, Each}
+use Rattle.rules.specs.Words.{Mem, Store, upd, after, wordBytes}
+use Rattle.rules.specs.Pages.{clumpsAt, staticAt, staticEnd}
+use Rattle.rules.specs.Clumps.{Head, stateAt, bodyOf, endOf, isLive, Tiles, FREEING}
+use Rattle.rules.specs.Sound.{isEven, lies, isValid}
+use Rattle.word.specs.Memory.{upd-same, upd-other}
+use Rattle.laws.specs.Searches.{differ, and-both}
+use Rattle.laws.specs.Tilings.{tiles-le, tiles-split}
+use Rattle.laws.specs.Walks.{Reads}
+
+abbrev pub withState : Head → ℕ → Head
+withState h s = record { at = h .at; nbytes = h .nbytes; state = s }
+
+-- i is no size or state word of hs
+abbrev pub Clear : ℕ → List Head → Type 0
+Clear i [] = Unit {0}
+Clear i (h ∷ hs) = (h .at ≡ i → ⊥) × (stateAt (h .at) ≡ i → ⊥) × Clear i hs
+
+pub clear-below : (i a b : ℕ) (hs : List Head) → Tiles a hs b → i < a → Clear i hs
+clear-below i a b [] t l = tt
+clear-below i a b (h ∷ hs) t l = (omega arith, omega arith, clear-below i (a + h .nbytes) b hs (t .1) (omega arith))
+
+pub clear-above : (i a b : ℕ) (hs : List Head) → Tiles a hs b → b ≤ i → Clear i hs
+clear-above i a b [] t l = tt
+clear-above i a b (h ∷ hs) t l =
+    let z = tiles-le (a + h .nbytes) b hs (t .1) in
+    (omega arith, omega arith, clear-above i (a + h .nbytes) b hs (t .1) l)
+
+pub clear-append : (i : ℕ) (p q : List Head) → Clear i p → Clear i q → Clear i (p ++ q)
+clear-append i [] q c d = d
+clear-append i (h ∷ p) q c d = (c .0, c .1, clear-append i p q (c .2) d)
+
+pub reads-upd : (m : Mem) (i w : ℕ) (hs : List Head) → Clear i hs → Reads m hs → Reads (upd m i w) hs
+reads-upd m i w [] c r = tt
+reads-upd m i w (h ∷ hs) c r =
+    (upd-other m i w (h .at) (c .0) ∙ r .0, upd-other m i w (stateAt (h .at)) (c .1) ∙ r .1, reads-upd m i w hs (c .2) (r .2))
+
+pub reads-after : (m : Mem) (st : List Store) (hs : List Head) → Each (λ s. Clear (s .to) hs) st → Reads m hs → Reads (after m st) hs
+unfolding after
+reads-after m [] hs c r = r
+reads-after m (s ∷ st) hs c r = reads-after (upd m (s .to) (s .word)) st hs (c .1) (reads-upd m (s .to) (s .word) hs (c .0) r)
+
+pub reads-append : (m : Mem) (p q : List Head) → Reads m p → Reads m q → Reads m (p ++ q)
+reads-append m [] q r s = s
+reads-append m (h ∷ p) q r s = (r .0, r .1, reads-append m p q (r .2) s)
+
+pub reads-left : (m : Mem) (p q : List Head) → Reads m (p ++ q) → Reads m p
+reads-left m [] q r = tt
+reads-left m (h ∷ p) q r = (r .0, r .1, reads-left m p q (r .2))
+
+pub reads-right : (m : Mem) (p q : List Head) → Reads m (p ++ q) → Reads m q
+reads-right m [] q r = r
+reads-right m (h ∷ p) q r = reads-right m p q (r .2)
+
+-- a store in the header of one clump, past its size and state
+pub clear-header : (a b i : ℕ) (p : List Head) (h : Head) (q : List Head) → Tiles a (p ++ (h ∷ q)) b → h .at + 16 ≤ i → i < h .at + h .nbytes → Clear i (p ++ (h ∷ q))
+clear-header a b i p h q t l u =
+    let s = tiles-split a b p (h ∷ q) t in
+    clear-append i p (h ∷ q) (clear-above i a (s .0) p (s .1) (omega (arith, s .2 .0 .here)))
+    (omega arith, omega arith, clear-below i (s .0 + h .nbytes) b q (s .2 .1) (omega (arith, s .2 .0 .here)))
+
+-- a store of a state
+pub reads-state : (m : Mem) (w a b : ℕ) (p : List Head) (h : Head) (q : List Head) → Tiles a (p ++ (h ∷ q)) b → Reads m (p ++ (h ∷ q)) → Reads (upd m (stateAt (h .at)) w) (p ++ (withState h w ∷ q))
+reads-state m w a b p h q t r =
+    let s = tiles-split a b p (h ∷ q) t in
+    let i = stateAt (h .at) in
+    let rh = reads-right m p (h ∷ q) r in
+    reads-append (upd m i w) p (withState h w ∷ q)
+    (reads-upd m i w p (clear-above i a (s .0) p (s .1) (omega (arith, s .2 .0 .here))) (reads-left m p (h ∷ q) r))
+    (
+      upd-other m i w (h .at) (omega arith) ∙ rh .0,
+      upd-same m i w,
+      reads-upd m i w q (clear-below i (s .0 + h .nbytes) b q (s .2 .1) (omega (arith, s .2 .0 .here, s .2 .0 .least))) (rh .2),
+    )
+
+pub tiles-state : (w a b : ℕ) (p : List Head) (h : Head) (q : List Head) → w ≤ FREEING → Tiles a (p ++ (h ∷ q)) b → Tiles a (p ++ (withState h w ∷ q)) b
+tiles-state w a b [] h q k t = (record { here = t .0 .here; least = t .0 .least; whole = t .0 .whole; known = k }, t .1)
+tiles-state w a b (g ∷ p) h q k t = (t .0, tiles-state w (a + g .nbytes) b p h q k (t .1))
+
+-- the word at t lies in a body of a live clump
+abbrev holds : ℕ → Head → Bool
+holds t h = isLive h && lies (bodyOf h) (endOf h) t
+
+holds-in : (t : ℕ) (h : Head) → holds t h ≡ true → (bodyOf h ≤ t) × (t + wordBytes ≤ endOf h)
+holds-in t h e =
+    let x = and-both (isLive h) _ e .1 in
+    let y = and-both (leb (bodyOf h) t) _ x in
+    (leb-true (bodyOf h) t (y .0), leb-true (t + wordBytes) (endOf h) (y .1))
+
+held-above : (a b t : ℕ) (hs : List Head) → Tiles a hs b → any (holds t) hs ≡ true → a ≤ t
+unfolding any
+held-above a b t [] s e = differ e refl
+held-above a b t (h ∷ hs) s e = go (holds t h) refl e (held-above (a + h .nbytes) b t hs (s .1))
+  where
+    go : (c : Bool) → holds t h ≡ c → (c || any (holds t) hs) ≡ true → (any (holds t) hs ≡ true → a + h .nbytes ≤ t) → a ≤ t
+    go true q f ih = let x = holds-in t h q in omega (arith, s .0 .here)
+    go false q f ih = let x = ih f in omega arith
+
+held-clear : (a b t : ℕ) (hs : List Head) → Tiles a hs b → any (holds t) hs ≡ true → Clear t hs
+unfolding any
+held-clear a b t [] s e = tt
+held-clear a b t (h ∷ hs) s e = go (holds t h) refl e (held-clear (a + h .nbytes) b t hs (s .1))
+  where
+    go : (c : Bool) → holds t h ≡ c → (c || any (holds t) hs) ≡ true → (any (holds t) hs ≡ true → Clear t hs) → Clear t (h ∷ hs)
+    go true q f ih =
+        let x = holds-in t h q in
+        (omega arith, omega arith, clear-below t (a + h .nbytes) b hs (s .1) (omega (arith, s .0 .here)))
+    go false q f ih =
+        let x = held-above (a + h .nbytes) b t hs (s .1) f in
+        (omega (arith, s .0 .here, s .0 .least), omega (arith, s .0 .here, s .0 .least), ih f)
+
+-- a valid target is in no header
+pub valid-clear : (n t : ℕ) (hs : List Head) → Tiles clumpsAt hs n → isValid hs t ≡ true → Clear t hs
+unfolding isValid
+valid-clear n t hs s e = go (lies staticAt staticEnd t) refl (and-both (isEven t) _ e .1)
+  where
+    go : (c : Bool) → lies staticAt staticEnd t ≡ c → (c || any (holds t) hs) ≡ true → Clear t hs
+    go true q f = let x = leb-true (t + wordBytes) staticEnd (and-both (leb staticAt t) _ q .1) in clear-below t clumpsAt n hs s (omega arith)
+    go false q f = held-clear clumpsAt n t hs s f

@@ -93,7 +93,7 @@ unfolding secondFault those
 others-idle p h q e f g = those-none q (second-none h (those isPending q) (rw (those-pass p (h ∷ q) f, g) at e))
 
 -- the targets that are carried out miss the headers
-targets-valid : (m : Mem) (hs : List Head) (h : Head) → seek isPending hs ≡ some h → targetFault m hs ≡ none → allValid m hs h ≡ true
+pub targets-valid : (m : Mem) (hs : List Head) (h : Head) → seek isPending hs ≡ some h → targetFault m hs ≡ none → allValid m hs h ≡ true
 unfolding targetFault
 targets-valid m hs h e f = go (allValid m hs h) refl (rw e at f)
   where

@@ -75,8 +75,7 @@ reads-state m w a b p h q t r =
     let i = stateAt (h .at) in
     let rh = reads-right m p (h ∷ q) r in
     reads-append (upd m i w) p (withState h w ∷ q)
-    (reads-upd m i w p (clear-above i a (s .0) p (s .1) (omega (arith, s .2 .0 .here))) (reads-left m p (h ∷ q) r))
-    (
+    (reads-upd m i w p (clear-above i a (s .0) p (s .1) (omega (arith, s .2 .0 .here))) (reads-left m p (h ∷ q) r)) (
       upd-other m i w (h .at) (omega arith) ∙ rh .0,
       upd-same m i w,
       reads-upd m i w q (clear-below i (s .0 + h .nbytes) b q (s .2 .1) (omega (arith, s .2 .0 .here, s .2 .0 .least))) (rh .2),

@@ -2,8 +2,8 @@
 -- first clump and the sum so far, all 0 outside a run. It stores at the end of a run that has more than its first clump.
 -- By induction on the clumps, inside a run and outside one together. Assumes nothing.
 use Prim.Native.Nat.{ℕ, _+_, _<_, _≤_}
-use mathlib.Core.Path.{_≡_, refl, sym, ap, _∙_}
-use mathlib.Core.Bool.{Bool, true, false, cond, _&&_}
+use mathlib.Core.Path.{_≡_, refl, ap, _∙_}
+use mathlib.Core.Bool.{Bool, true, false, cond}
 use mathlib.Core.List.{List, [], _∷_, _++_}
 use native.Mathlib.Omega.{arith}
 use lib.Dec.{eqb}
@@ -11,7 +11,7 @@ use borrow.Author.Tests.{eq-eqb, ne-eqb}
 use Rattle.rules.specs.Words.{Store, store}
 use Rattle.rules.specs.Clumps.{Head, Tiles, isFree}
 use Rattle.rules.specs.Answers.{bytesOf}
-use Rattle.rules.specs.Stores.{Run, inFront, runs, joinRun, joining}
+use Rattle.rules.specs.Stores.{Run, inFront, runs, joining}
 
 -- the run after a clump
 abbrev pub nextFirst : ℕ → ℕ → Head → ℕ

@@ -2,19 +2,19 @@
 -- By induction on the clumps, with one law for each kind of store. Assumes nothing.
 use Prim.Native.Nat.{ℕ, _+_, _<_, _≤_}
 use mathlib.Core.Path.{_≡_, refl, sym, ap, ap₂, _∙_, subst}
-use mathlib.Core.Bool.{Bool, true, false, cond, not, _&&_, _||_}
+use mathlib.Core.Bool.{Bool, true, false, cond}
 use mathlib.Core.Option.{Option, some, none}
 use mathlib.Core.List.{List, [], _∷_, _++_, map}
 use native.Mathlib.Omega.{arith}
 use lib.Dec.{eqb}
 use Rattle.rules.specs.Lists.{seek, those, all, Each}
-use Rattle.rules.specs.Words.{Mem, Store, upd, after}
+use Rattle.rules.specs.Words.{Mem, upd, after}
 use Rattle.rules.specs.Pages.{clumpsAt}
 use Rattle.rules.specs.Clumps.{Head, Tiles, stateAt, hasState, isPending, isUsed, slots, usedSlots, entry, entries, FREE, RESERVED, ACTIVATING, ACTIVE, FREEING}
-use Rattle.rules.specs.Sound.{Fault, faultAt, second, secondFault, isValid, allValid, invalid, targetFault}
+use Rattle.rules.specs.Sound.{faultAt, second, secondFault, isValid, allValid, targetFault}
 use Rattle.rules.specs.Stores.{setState, emptying, finishActivating, finishFreeing, finishing, releasing, released}
 use Rattle.word.specs.Memory.{upd-same, upd-other, after-append}
-use Rattle.laws.specs.Searches.{differ, some-none, or-neither, and-both, Split, seek-split, seek-none, each-map}
+use Rattle.laws.specs.Searches.{some-none, or-neither, and-both, Split, seek-split, seek-none}
 use Rattle.laws.specs.Totals.{five}
 use Rattle.laws.specs.Walks.{Reads}
 use Rattle.laws.specs.Stored.{withState, Clear, clear-below, clear-header, reads-upd, reads-after, reads-state, valid-clear}

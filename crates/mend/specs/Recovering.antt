@@ -1,34 +1,34 @@
 -- Recovery as the code makes it: what each part stores, what the clumps are after it, and the whole. A part is gone on from only where
 -- nothing was cut, so that the image is then the one that all its stores leave. Assumes nothing.
-use Prim.Native.Nat.{ℕ, _+_, _-_, _<_, _≤_, min}
-use mathlib.Core.Path.{_≡_, refl, sym, ap, ap₂, _∙_, subst}
-use mathlib.Core.Bool.{Bool, true, false, cond}
-use mathlib.Core.Option.{Option, some, none}
+use Prim.Native.Nat.{ℕ, _+_, _-_, min}
+use mathlib.Core.Path.{_≡_, refl, sym, ap, _∙_}
+use mathlib.Core.Bool.{true, false}
+use mathlib.Core.Option.{some, none}
 use mathlib.Core.List.{List, [], _∷_, _++_, map, append-assoc}
 use native.Mathlib.Omega.{arith}
-use lib.Dec.{eqb, ltb}
+use lib.Dec.{ltb}
 use lib.ListN.{length, take, length-append}
 use lib.Seq.{take-all, take-append-le}
 use borrow.Author.Tests.{eq-eqb, ne-eqb, ltb-true, ltb-false, lt-ltb}
 use Rattle.rules.specs.declared.Answer.{Answer}
 use Rattle.rules.specs.declared.Request.the-variants.{Recover}
 use Rattle.rules.specs.Lists.{seek}
-use Rattle.rules.specs.Words.{Image, Mem, Store, mem, store, after, carry}
+use Rattle.rules.specs.Words.{Image, Mem, Store, mem, store, after}
 use Rattle.rules.specs.Pages.{clumpsAt}
-use Rattle.rules.specs.Clumps.{Head, head, hasState, isPending, stateAt, ACTIVATING, ACTIVE, FREE, Tiles, walk}
-use Rattle.rules.specs.Sound.{allValid, targetFault}
-use Rattle.rules.specs.Answers.{granted, ifSound, answerAt, answerOf}
+use Rattle.rules.specs.Clumps.{Head, head, isPending, stateAt, ACTIVATING, ACTIVE, FREE, Tiles, walk}
+use Rattle.rules.specs.Sound.{targetFault}
+use Rattle.rules.specs.Answers.{granted, ifSound, answerAt}
 use Rattle.rules.specs.Stores.{finishActivating, finishFreeing, finishing, releasing, released, runs, joining, recoverStores}
 use Rattle.rules.specs.Requests.{Does, verdict}
 use Rattle.rules.specs.Reading.{clumpsOf, Tiled}
 use Rattle.word.specs.declared.Power.{Power}
 use Rattle.word.specs.Runs.{full, cutBy, spent, Ran, ran-then}
 use Rattle.laws.specs.Walks.{Reads, heads-read, walk-finds, sound-tiles, no-faults}
-use Rattle.laws.specs.Pools.{Sound, check-sound, pool-length}
+use Rattle.laws.specs.Pools.{Sound, pool-length}
 use Rattle.laws.specs.Mending.{settle, freed, map-released, tiles-settle, tiles-freed, finish-reads, release-reads, releasing-settle}
 use Rattle.page.specs.Forms.{listAt}
 use Rattle.steps.specs.Lists.{assignsOf, emptiesOf, assigns-are, empties-are}
-use Rattle.steps.specs.Acts.{Acts, acts-does, acts-ran, unsound-acts}
+use Rattle.steps.specs.Acts.{acts-does, acts-ran}
 use Rattle.steps.specs.Loops.{ran-as}
 
 -- the stores of the first part, by the clump that was found and the list that was read

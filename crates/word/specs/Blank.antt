@@ -4,10 +4,10 @@ use Prim.Native.Nat.{ℕ, zero, suc, _+_, _*_, _%_, _<_, _≤_}
 use mathlib.Core.Path.{_≡_, refl, sym, _∙_}
 use mathlib.Core.Bool.{Bool, true, false, _&&_}
 use native.Mathlib.Omega.{arith}
-use lib.Dec.{eqb, ltb, leb}
+use lib.Dec.{eqb, ltb}
 use lib.ListN.{getD}
 use borrow.Author.Tests.{eqb-true, eqb-false, eq-eqb, ltb-true, ltb-false}
-use Rattle.rules.specs.Words.{Image, wordBytes, byteValues, le, wordAt, mem, allZero}
+use Rattle.rules.specs.Words.{Image, wordBytes, le, wordAt, mem, allZero}
 use Rattle.word.specs.Memory.{mem-at}
 
 -- the bytes from i up to e are 0

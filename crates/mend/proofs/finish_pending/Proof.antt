@@ -13,13 +13,6 @@ use Rattle.mend.specs.Recovering.{finish-none, finish-activates, finish-
 use borrow.Author.Needs.{needs}
 use Rattle.mend.proofs.finish_pending.Statement.{statement}
 use Rattle.mend.proofs.finish_pending.Tie as tie
-use Rattle.mend.proofs.finish_pending.Reads as reads
-use Rattle.mend.proofs.finish_pending.Lts as lts
-use Rattle.judge.proofs.first_pending.Reads as first-pending-reads
-use Rattle.page.proofs.clump.Clump.list.Reads as list-reads
-use Rattle.page.proofs.clump.Clump.read.Reads as read-reads
-use Rattle.steps.proofs.finish_activating.Reads as finish-activating-reads
-use Rattle.steps.proofs.finish_freeing.Reads as finish-freeing-reads
 
 first-pending-requires : tie.Need-first-pending-requires
 first-pending-requires c κs = search needs

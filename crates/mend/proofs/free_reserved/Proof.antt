@@ -4,9 +4,6 @@ use Rattle.word.specs.Runs.{ran-none}
 use borrow.Author.Needs.{needs}
 use Rattle.mend.proofs.free_reserved.Statement.{statement}
 use Rattle.mend.proofs.free_reserved.Tie as tie
-use Rattle.mend.proofs.free_reserved.Reads as reads
-use Rattle.mend.proofs.free_reserved.Lts as lts
-use Rattle.word.proofs.store.Reads as store-reads
 
 add-store : tie.Need-add-store
 add-store c = search needs

@@ -1,7 +1,7 @@
 -- `join_runs`: a walk that stores behind itself, with the run that it is in. Assumes nothing.
-use Rattle.mend.specs.Passes.{Passing, passing-start, passing-here, passing-next, passing-end, Runs, runs-start, runs-sum, runs-in, join-next, runs-below, runs-next}
+use Rattle.mend.specs.Passes.{Passing, passing-start, passing-here, passing-end, Runs, runs-start, runs-sum, runs-in, join-next}
 use Prim.Native.Nat.{_-_, _≤_}
-use mathlib.Core.Path.{refl, _∙_, subst}
+use mathlib.Core.Path.{refl, subst}
 use lib.ListN.{length}
 use native.Mathlib.Omega.{arith}
 use Rattle.rules.specs.Pages.{clumpsAt}
@@ -11,11 +11,6 @@ use Rattle.laws.specs.Tilings.{tiles-le}
 use Rattle.laws.specs.Joins.{joins, joins-are}
 use Rattle.mend.proofs.join_runs.Statement.{statement}
 use Rattle.mend.proofs.join_runs.Tie as tie
-use Rattle.mend.proofs.join_runs.Reads as reads
-use Rattle.mend.proofs.join_runs.Lts as lts
-use Rattle.mend.proofs.next_run.Reads as next-run-reads
-use Rattle.mend.proofs.store_run.Reads as store-run-reads
-use Rattle.page.proofs.clump.Clump.read.Reads as read-reads
 
 abbrev Inv-loop : tie.InvT-loop
 Inv-loop img₀ q₀ h₀ r₀ img q h r = Passing (joins (r .first) (r .own) (r .sum)) img₀ q₀ img q h (joining (runs (clumpsOf img₀))) × Runs h r × (h ≤ length img₀)

@@ -3,8 +3,6 @@ use borrow.Author.Tests.{eq-eqb, ne-eqb}
 use borrow.Author.Needs.{needs}
 use Rattle.mend.proofs.next_run.Statement.{statement}
 use Rattle.mend.proofs.next_run.Tie as tie
-use Rattle.mend.proofs.next_run.Reads as reads
-use Rattle.mend.proofs.next_run.Lts as lts
 
 returns : tie.Need-returns
 returns c = rw (ne-eqb _ _ (c .if1 .taken))

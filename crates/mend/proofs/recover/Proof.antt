@@ -9,14 +9,6 @@ use Rattle.mend.specs.Recovering.{sound-tiled, sound-targets, settled-ti
 use borrow.Author.Needs.{needs}
 use Rattle.mend.proofs.recover.Statement.{statement}
 use Rattle.mend.proofs.recover.Tie as tie
-use Rattle.mend.proofs.recover.Reads as reads
-use Rattle.mend.proofs.recover.Lts as lts
-use Rattle.mend.proofs.finish_pending.Reads as finish-pending-reads
-use Rattle.mend.proofs.join_runs.Reads as join-runs-reads
-use Rattle.mend.proofs.release_reserved.Reads as release-reserved-reads
-use Rattle.steps.proofs.finish.Reads as finish-reads
-use Rattle.survey.proofs.sound.Reads as sound-reads
-use Rattle.word.proofs.Power.new.Reads as new-reads
 
 sound-requires : tie.Need-sound-requires
 sound-requires c κs = search needs

@@ -1,7 +1,7 @@
 -- `release_reserved`: a walk that stores behind itself. Assumes nothing.
-use Rattle.mend.specs.Passes.{Passing, passing-start, passing-here, passing-next, passing-end, release-next, state-below}
+use Rattle.mend.specs.Passes.{Passing, passing-start, passing-here, passing-end, release-next}
 use Prim.Native.Nat.{_-_}
-use mathlib.Core.Path.{refl, _∙_}
+use mathlib.Core.Path.{refl}
 use mathlib.Core.List.{[]}
 use lib.ListN.{length}
 use native.Mathlib.Omega.{arith}
@@ -9,13 +9,8 @@ use Rattle.rules.specs.Lists.{those}
 use Rattle.rules.specs.Stores.{releasing}
 use Rattle.rules.specs.Reading.{clumpsOf}
 use Rattle.word.specs.Runs.{ran-none}
-use Rattle.laws.specs.Mending.{releasing-cons}
 use Rattle.mend.proofs.release_reserved.Statement.{statement}
 use Rattle.mend.proofs.release_reserved.Tie as tie
-use Rattle.mend.proofs.release_reserved.Reads as reads
-use Rattle.mend.proofs.release_reserved.Lts as lts
-use Rattle.mend.proofs.free_reserved.Reads as free-reserved-reads
-use Rattle.page.proofs.clump.Clump.read.Reads as read-reads
 
 abbrev Inv-loop : tie.InvT-loop
 Inv-loop img₀ q₀ h₀ img q h = Passing releasing img₀ q₀ img q h (releasing (clumpsOf img₀))

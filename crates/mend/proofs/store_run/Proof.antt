@@ -4,9 +4,6 @@ use Rattle.word.specs.Runs.{ran-none}
 use borrow.Author.Needs.{needs}
 use Rattle.mend.proofs.store_run.Statement.{statement}
 use Rattle.mend.proofs.store_run.Tie as tie
-use Rattle.mend.proofs.store_run.Reads as reads
-use Rattle.mend.proofs.store_run.Lts as lts
-use Rattle.word.proofs.store.Reads as store-reads
 
 returns : tie.Need-returns
 returns c = rw (eq-eqb _ _ (c .if1 .taken)) (ran-none _ _)

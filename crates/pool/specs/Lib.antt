@@ -1,0 +1,2 @@
+-- What every public contract determines, and check as a request.
+pub mod Determined

@@ -10,3 +10,6 @@ pub mod Independence
 pub mod Stored
 pub mod Mending
 pub mod Joins
+pub mod Served
+pub mod Landing
+pub mod Named

@@ -125,3 +125,13 @@ module _ {A : Type 0} where
   unfolding all
   all-same p q [] e = refl
   all-same p q (x ∷ xs) e = rw (e .0, all-same p q xs (e .1))
+
+  -- what passes, with what holds of each
+  pub any-each : (P : A → Type 0) (p : A → Bool) (hs : List A) → any p hs ≡ true → Each P hs → (h : A) × (p h ≡ true) × P h
+  unfolding any
+  any-each P p [] e f = differ e refl
+  any-each P p (h ∷ hs) e f = go (p h) refl e (any-each P p hs)
+    where
+      go : (t : Bool) → p h ≡ t → (t || any p hs) ≡ true → (any p hs ≡ true → Each P hs → (k : A) × (p k ≡ true) × P k) → (k : A) × (p k ≡ true) × P k
+      go true q e ih = (h, q, f .0)
+      go false q e ih = ih e (f .1)

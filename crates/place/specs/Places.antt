@@ -69,11 +69,7 @@ fit-found n m size r s t e l =
     let p = seek-split (fits (needOf size)) (walk n m) (head m r) (offset-some n m (fits (needOf size)) t r e l) .passes in
     record { even = i .even; enough = leb-true (needOf size) (m r) (and-both (isFree (head m r)) _ p .1); room = i .room; small = s }
 
--- need is a multiple of 64, and at least a header and a unit
-pub need-even : (size : ℕ) → needOf size % unit ≡ 0
-unfolding needOf
-need-even size = omega arith
-
+-- need, as the code computes it, and its least
 pub need-is : (size : ℕ) → 64 + (size / 64 + (size % 64 + 63) / 64) * 64 ≡ needOf size
 unfolding needOf
 need-is size = omega arith

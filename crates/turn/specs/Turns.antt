@@ -6,21 +6,21 @@ use mathlib.Core.Bool.{Bool, true, false, cond, _&&_, _||_}
 use mathlib.Core.Option.{some, none}
 use mathlib.Core.List.{List, [], _∷_, _++_}
 use native.Mathlib.Omega.{arith}
-use lib.Dec.{eqb, leb, ltb}
+use lib.Dec.{eqb, ltb}
 use lib.ListN.{length, getD}
-use borrow.Author.Tests.{eq-eqb, ne-eqb, eqb-true, leb-true, eqb-false, lt-ltb, ltb-true, ltb-false}
-use Rattle.rules.specs.Lists.{seek, any, Each}
+use borrow.Author.Tests.{eq-eqb, ne-eqb, eqb-true, eqb-false, lt-ltb, ltb-true, ltb-false}
+use Rattle.rules.specs.Lists.{seek}
 use Rattle.rules.specs.Words.{Image, Mem, Store, mem, store, wordBytes, wordValues}
-use Rattle.rules.specs.Pages.{clumpsAt, staticAt, staticEnd}
-use Rattle.rules.specs.Clumps.{Head, head, bodyOf, endOf, isFree, isLive, isWaiting, hasState, stateAt, headerBytes, RESERVED, ACTIVATING, ACTIVE, FREEING, FREE, Tiles, walk}
-use Rattle.rules.specs.Sound.{isEven, lies, isValid, allValid}
+use Rattle.rules.specs.Pages.{clumpsAt}
+use Rattle.rules.specs.Clumps.{Head, head, endOf, isFree, isWaiting, hasState, stateAt, headerBytes, RESERVED, ACTIVATING, ACTIVE, FREEING, FREE, Tiles, walk}
+use Rattle.rules.specs.Sound.{isValid, allValid}
 use Rattle.rules.specs.Answers.{granted, refuse, wrongState, badTarget, answerAt}
 use Rattle.rules.specs.Stores.{finishActivating, finishFreeing, activateStores, dropStores, joinBefore, joinBoth, freeStores}
 use Rattle.rules.specs.Requests.{activate, mayDrop, free}
 use Rattle.rules.specs.Reading.{clumpsOf, Tiled}
-use Rattle.laws.specs.Searches.{differ, and-both, seek-split}
-use Rattle.laws.specs.Tilings.{tiles-le}
-use Rattle.laws.specs.Walking.{Placed, seek-placed, all-placed}
+use Rattle.laws.specs.Searches.{and-both, seek-split}
+use Rattle.laws.specs.Walking.{seek-placed}
+use Rattle.laws.specs.Landing.{valid-in}
 use Rattle.page.specs.Forms.{listAt}
 use Rattle.walk.specs.Forms.{offsetOf, listValid}
 use Rattle.walk.specs.Scans.{offset-none, offset-some, offset-inside, list-valid}
@@ -54,36 +54,6 @@ pub record Turned (img : Image) (h state nbytes : ℕ) (l : List (List ℕ)) : T
   pub room : h + nbytes ≤ length img
   pub small : length img < wordValues
   pub valid : state ≡ ACTIVE → listValid (clumpsOf img) l ≡ true
-
--- a valid target lies in the image, at an offset divisible by 8
-any-each : (P : Head → Type 0) (p : Head → Bool) (hs : List Head) → any p hs ≡ true → Each P hs → (h : Head) × (p h ≡ true) × P h
-unfolding any
-any-each P p [] e f = differ e refl
-any-each P p (h ∷ hs) e f = go (p h) refl e (any-each P p hs)
-  where
-    go : (t : Bool) → p h ≡ t → (t || any p hs) ≡ true → (any p hs ≡ true → Each P hs → (k : Head) × (p k ≡ true) × P k) → (k : Head) × (p k ≡ true) × P k
-    go true q e ih = (h, q, f .0)
-    go false q e ih = ih e (f .1)
-
-pub valid-in : (n : ℕ) (m : Mem) (t : ℕ) → Tiles clumpsAt (walk n m) n → isValid (walk n m) t ≡ true → (t % wordBytes ≡ 0) × (t + wordBytes ≤ n)
-unfolding isValid
-valid-in n m t tiles e =
-    let a = and-both (isEven t) _ e in
-    let l = tiles-le clumpsAt n (walk n m) tiles in
-    (eqb-true (t % wordBytes) 0 (a .0), go (lies staticAt staticEnd t) refl (a .1) l)
-  where
-    go :
-        (b : Bool)
-        → lies staticAt staticEnd t ≡ b
-        → (b || any (λ h. isLive h && lies (bodyOf h) (endOf h) t) (walk n m)) ≡ true
-        → clumpsAt ≤ n
-        → t + wordBytes ≤ n
-    go true q f l = let c = leb-true (t + wordBytes) staticEnd (and-both (leb staticAt t) _ q .1) in omega arith
-    go false q f l =
-        let x = any-each (Placed n m) (λ h. isLive h && lies (bodyOf h) (endOf h) t) (walk n m) f (all-placed n m tiles) in
-        let c = leb-true (t + wordBytes) (endOf (x .0)) (and-both (leb (bodyOf (x .0)) t) _ (and-both (isLive (x .0)) _ (x .1) .1) .1) in
-        let s : x .0 .nbytes ≡ m (x .0 .at) = ap (λ (k : Head). k .nbytes) (x .2 .head-is) in
-        omega (arith, x .2 .inside .room)
 
 valid-at : (hs : List Head) (l : List (List ℕ)) (i : ℕ) → listValid hs l ≡ true → (getD (getD l i []) 0 0 ≡ 0 → ⊥) → isValid hs (getD (getD l i []) 0 0) ≡ true
 unfolding listValid

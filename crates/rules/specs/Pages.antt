@@ -39,10 +39,10 @@ unfoldable pub signatureHigh : ℕ
 unfolding signature le codes
 signatureHigh = le wordBytes signature wordBytes
 
--- | 12304 | total size, equal to the image's length |
 abbrev pub signatureHighAt : ℕ
 signatureHighAt = headerAt + wordBytes
 
+-- | 12304 | total size, equal to the image's length |
 abbrev pub totalAt : ℕ
 totalAt = 12304
 

@@ -17,7 +17,7 @@ use Rattle.rules.specs.Sound.{Fault, faultAt, inPlace, gapped, listBad, faultOf
 use Rattle.rules.specs.Answers.{Verdict, granted, test, wrongState, badTarget, ifSound, ifSettled}
 use Rattle.rules.specs.Stores.{setState, freeAfter, freeBefore, joinBoth, releasing, released, runs, joining, emptying, finishActivating, finishFreeing, activateStores, dropStores, freeStores, finishing, recoverStores}
 use Rattle.rules.specs.Requests.{reserve, finder, found, listed, enlist, withdrawn, withdraw, activate, free, verdict}
-use Rattle.laws.specs.Searches.{seek-same, seek-each, any-same, all-same, each-map}
+use Rattle.laws.specs.Searches.{those-each, seek-same, seek-each, any-same, all-same, each-map}
 
 -- x agrees with m on the header of the clump at a, and on the headers of hs
 abbrev pub AgreeAt : Mem → Mem → ℕ → Type 0
@@ -50,26 +50,17 @@ heads-same (suc k) n a m x g = go (ltb a n) refl g (heads-same k n (a + m a) m x
     go false p f ih = rw (p, headsFrom)
 
 -- x agrees with m on the entries that stand at these offsets
-abbrev SameSlots : Mem → Mem → List ℕ → Type 0
+abbrev pub SameSlots : Mem → Mem → List ℕ → Type 0
 SameSlots m x sl = Each (λ s. (x s ≡ m s) × (x (valueAt s) ≡ m (valueAt s))) sl
 
-slots-same : (m x : Mem) (a : ℕ) → AgreeAt m x a → SameSlots m x (slots a)
+pub slots-same : (m x : Mem) (a : ℕ) → AgreeAt m x a → SameSlots m x (slots a)
 slots-same m x a g =
     let at : (o : ℕ) → a ≤ o → o + wordBytes ≤ a + headerBytes → x o ≡ m o = g in (
       (at _ (omega arith) (omega arith), at _ (omega arith) (omega arith)),
       ((at _ (omega arith) (omega arith), at _ (omega arith) (omega arith)), ((at _ (omega arith) (omega arith), at _ (omega arith) (omega arith)), tt)),
     )
 
-those-each : {A : Type 0} (P : A → Type 0) (p : A → Bool) (xs : List A) → Each P xs → Each P (those p xs)
-unfolding those
-those-each P p [] f = tt
-those-each P p (y ∷ xs) f = go (p y) (those-each P p xs (f .1))
-  where
-    go : (t : Bool) → Each P (those p xs) → Each P (cond t (y ∷ those p xs) (those p xs))
-    go true r = (f .0, r)
-    go false r = r
-
-map-same : {A B : Type 0} (f g : A → B) (xs : List A) → Each (λ x. f x ≡ g x) xs → map f xs ≡ map g xs
+pub map-same : {A B : Type 0} (f g : A → B) (xs : List A) → Each (λ x. f x ≡ g x) xs → map f xs ≡ map g xs
 map-same f g [] e = refl
 map-same f g (x ∷ xs) e = ap₂ _∷_ (e .0) (map-same f g xs (e .1))
 
@@ -80,14 +71,14 @@ those-same m x (s ∷ sl) e =
     ap (λ (l : List ℕ). cond (isUsed x s) (s ∷ l) l) (those-same m x sl (e .1))
     ∙ ap (λ (w : ℕ). cond (not (eqb w 0)) (s ∷ those (isUsed m) sl) (those (isUsed m) sl)) (e .0 .0)
 
-module _ (m x : Mem) (a : ℕ) (g : AgreeAt m x a) where
-  used-same : usedSlots x a ≡ usedSlots m a
-  used-same = those-same m x (slots a) (slots-same m x a g)
+module _ (m x : Mem) (a : ℕ) (g : SameSlots m x (slots a)) where
+  pub used-same : usedSlots x a ≡ usedSlots m a
+  used-same = those-same m x (slots a) g
 
   used-words : SameSlots m x (usedSlots m a)
-  used-words = those-each (λ s. (x s ≡ m s) × (x (valueAt s) ≡ m (valueAt s))) (isUsed m) (slots a) (slots-same m x a g)
+  used-words = those-each (λ s. (x s ≡ m s) × (x (valueAt s) ≡ m (valueAt s))) (isUsed m) (slots a) g
 
-  entries-same : entries x a ≡ entries m a
+  pub entries-same : entries x a ≡ entries m a
   entries-same =
       ap (map (entry x)) used-same
       ∙ map-same (entry x) (entry m) (usedSlots m a)
@@ -98,7 +89,7 @@ module _ (m x : Mem) (a : ℕ) (g : AgreeAt m x a) where
   empty-same =
       seek-same (isEmpty x) (isEmpty m) (slots a)
       (each-map (λ s. (x s ≡ m s) × (x (valueAt s) ≡ m (valueAt s))) (λ s. isEmpty x s ≡ isEmpty m s) (slots a)
-      (λ s e. ap (λ (w : ℕ). eqb w 0) (e .0)) (slots-same m x a g))
+      (λ s e. ap (λ (w : ℕ). eqb w 0) (e .0)) g)
 
   -- a test of each used target
   used-test : (p : ℕ → Bool) → Each (λ s. p (x s) ≡ p (m s)) (usedSlots m a)
@@ -115,19 +106,19 @@ gapped-same m x (s ∷ sl) e =
     ap₂ _||_ (ap₂ _&&_ (ap (λ (w : ℕ). eqb w 0) (e .0 .0)) u) (gapped-same m x sl (e .1))
 
 module _ (n : ℕ) (m x : Mem) (hs : List Head) where
-  list-same : (h : Head) → AgreeAt m x (h .at) → listBad n x h ≡ listBad n m h
+  pub list-same : (h : Head) → SameSlots m x (slots (h .at)) → listBad n x h ≡ listBad n m h
   unfolding listBad
   list-same h g =
-      ap₂ (λ (b c : Bool). isWaiting h && (b || c)) (gapped-same m x (slots (h .at)) (slots-same m x (h .at) g))
+      ap₂ (λ (b c : Bool). isWaiting h && (b || c)) (gapped-same m x (slots (h .at)) g)
       (ap (any (λ s. not (inPlace n (targetAt x s)))) (used-same m x (h .at) g)
       ∙ any-same (λ s. not (inPlace n (targetAt x s))) (λ s. not (inPlace n (targetAt m s))) (usedSlots m (h .at))
       (used-test m x (h .at) g (λ w. not (inPlace n w))))
 
-  fault-same : (h : Head) → AgreeAt m x (h .at) → faultOf n x h ≡ faultOf n m h
+  fault-same : (h : Head) → SameSlots m x (slots (h .at)) → faultOf n x h ≡ faultOf n m h
   unfolding faultOf
   fault-same h g = rw (list-same h g)
 
-  valid-same : (h : Head) → AgreeAt m x (h .at) → allValid x hs h ≡ allValid m hs h
+  pub valid-same : (h : Head) → SameSlots m x (slots (h .at)) → allValid x hs h ≡ allValid m hs h
   unfolding allValid
   valid-same h g =
       ap (all (λ s. isValid hs (targetAt x s))) (used-same m x (h .at) g)
@@ -152,22 +143,22 @@ module _ (n : ℕ) (m x : Mem) (hs : List Head) where
       ap (Option·map (λ h. faultAt (faultOf n x h) h))
       (seek-same (λ h. not (eqb (faultOf n x h) 0)) (λ h. not (eqb (faultOf n m h) 0)) hs
       (each-map (λ h. AgreeAt m x (h .at)) (λ h. not (eqb (faultOf n x h) 0) ≡ not (eqb (faultOf n m h) 0)) hs
-      (λ h f. ap (λ (k : ℕ). not (eqb k 0)) (fault-same h f)) g))
+      (λ h f. ap (λ (k : ℕ). not (eqb k 0)) (fault-same h (slots-same m x (h .at) f))) g))
       ∙ found-same (λ h. not (eqb (faultOf n m h) 0)) (Option·map (λ h. faultAt (faultOf n x h) h)) (Option·map (λ h. faultAt (faultOf n m h) h)) g refl
-      (λ h f. ap (λ (k : ℕ). some (faultAt k h)) (fault-same h f))
+      (λ h f. ap (λ (k : ℕ). some (faultAt k h)) (fault-same h (slots-same m x (h .at) f)))
 
   target-fault-same : Agree m x hs → targetFault x hs ≡ targetFault m hs
   unfolding targetFault
   target-fault-same g =
-      found-same isPending (invalid x hs) (invalid m hs) g refl (λ h f. ap (λ (b : Bool). cond b none (some (faultAt 5 h))) (valid-same h f))
+      found-same isPending (invalid x hs) (invalid m hs) g refl (λ h f. ap (λ (b : Bool). cond b none (some (faultAt 5 h))) (valid-same h (slots-same m x (h .at) f)))
 
   -- the stores of a clump's list
-  finish-activating-same : (h : Head) → AgreeAt m x (h .at) → finishActivating x h ≡ finishActivating m h
+  pub finish-activating-same : (h : Head) → SameSlots m x (slots (h .at)) → finishActivating x h ≡ finishActivating m h
   unfolding finishActivating
   finish-activating-same h g =
       ap₂ (λ (st : List Store) (sl : List ℕ). st ++ (emptying sl ++ (setState h ACTIVE ∷ []))) (entries-same m x (h .at) g) (used-same m x (h .at) g)
 
-  finish-freeing-same : (h : Head) → AgreeAt m x (h .at) → finishFreeing x h ≡ finishFreeing m h
+  pub finish-freeing-same : (h : Head) → SameSlots m x (slots (h .at)) → finishFreeing x h ≡ finishFreeing m h
   unfolding finishFreeing
   finish-freeing-same h g = ap (λ (st : List Store). st ++ (setState h FREE ∷ [])) (entries-same m x (h .at) g)
 
@@ -176,25 +167,25 @@ module _ (n : ℕ) (m x : Mem) (hs : List Head) where
   recover-same g =
       ap (λ (st : List Store). st ++ (releasing hs ++ joining (runs (map released hs))))
       (found-same isPending (finishing x) (finishing m) g refl
-      (λ h f. ap₂ (cond (hasState ACTIVATING h)) (finish-activating-same h f) (finish-freeing-same h f)))
+      (λ h f. ap₂ (cond (hasState ACTIVATING h)) (finish-activating-same h (slots-same m x (h .at) f)) (finish-freeing-same h (slots-same m x (h .at) f))))
 
   -- the verdicts on a clump
-  enlist-same : (allowed o t v : ℕ) (h : Head) → AgreeAt m x (h .at) → enlist x hs allowed o t v h ≡ enlist m hs allowed o t v h
+  enlist-same : (allowed o t v : ℕ) (h : Head) → SameSlots m x (slots (h .at)) → enlist x hs allowed o t v h ≡ enlist m hs allowed o t v h
   unfolding enlist
   enlist-same allowed o t v h g =
       ap (λ (e : Option ℕ). test (not (hasState allowed h)) wrongState (listed (isValid hs t) e o t v)) (empty-same m x (h .at) g)
 
-  withdraw-same : (o : ℕ) (h : Head) → AgreeAt m x (h .at) → withdraw x o h ≡ withdraw m o h
+  withdraw-same : (o : ℕ) (h : Head) → SameSlots m x (slots (h .at)) → withdraw x o h ≡ withdraw m o h
   unfolding withdraw
   withdraw-same o h g = ap (λ (sl : List ℕ). test (not (isWaiting h)) wrongState (withdrawn sl o)) (used-same m x (h .at) g)
 
-  activate-same : (o : ℕ) (h : Head) → AgreeAt m x (h .at) → activate x hs o h ≡ activate m hs o h
+  activate-same : (o : ℕ) (h : Head) → SameSlots m x (slots (h .at)) → activate x hs o h ≡ activate m hs o h
   unfolding activate activateStores
   activate-same o h g =
       ap₂ (λ (b : Bool) (st : List Store). test (not (hasState RESERVED h)) wrongState (test (not b) badTarget (granted o (setState h ACTIVATING ∷ st))))
       (valid-same h g) (finish-activating-same h g)
 
-  free-same : (o : ℕ) (h : Head) → AgreeAt m x (h .at) → free x hs o h ≡ free m hs o h
+  free-same : (o : ℕ) (h : Head) → SameSlots m x (slots (h .at)) → free x hs o h ≡ free m hs o h
   unfolding free freeStores dropStores
   free-same o h g =
       ap₂ (λ (b : Bool) (st : List Store).
@@ -209,7 +200,7 @@ zero-same zero i m x g l u = refl
 zero-same (suc k) i m x g l u =
     ap₂ _&&_ (ap (λ (w : ℕ). eqb w 0) (g i l (omega arith))) (zero-same k (i + wordBytes) m x g (omega arith) (omega arith))
 
-pool-same : (n : ℕ) (m x : Mem) → AgreePage m x → isPool n x ≡ isPool n m
+pub pool-same : (n : ℕ) (m x : Mem) → AgreePage m x → isPool n x ≡ isPool n m
 unfolding isPool
 pool-same n m x g =
     rw (
@@ -225,7 +216,7 @@ module _ (n : ℕ) (m x : Mem) (page : AgreePage m x) (g : Agree m x (walk n m))
   unfolding walk
   walk-same = heads-same n n clumpsAt m x g
 
-  judge-same : judge n x ≡ judge n m
+  pub judge-same : judge n x ≡ judge n m
   unfolding judge
   judge-same =
       ap (λ (hs : List Head). orElse (clumpFault n x hs) (orElse (secondFault hs) (targetFault x hs))) walk-same
@@ -254,11 +245,11 @@ module _ (n : ℕ) (m x : Mem) (page : AgreePage m x) (g : Agree m x (walk n m))
   verdict-same Create = refl
   verdict-same (Reserve size) = settled-same _ _ (ap (λ (hs : List Head). reserve hs size) walk-same)
   verdict-same (Onactive o t v) =
-      asked-same o (λ hs. enlist x hs RESERVED o t v) (λ hs. enlist m hs RESERVED o t v) (enlist-same n m x (walk n m) RESERVED o t v)
-  verdict-same (Onfree o t v) = asked-same o (λ hs. enlist x hs ACTIVE o t v) (λ hs. enlist m hs ACTIVE o t v) (enlist-same n m x (walk n m) ACTIVE o t v)
-  verdict-same (Withdraw o) = asked-same o (λ hs. withdraw x o) (λ hs. withdraw m o) (withdraw-same n m x (walk n m) o)
-  verdict-same (Activate o) = asked-same o (λ hs. activate x hs o) (λ hs. activate m hs o) (activate-same n m x (walk n m) o)
-  verdict-same (Free o) = asked-same o (λ hs. free x hs o) (λ hs. free m hs o) (free-same n m x (walk n m) o)
+      asked-same o (λ hs. enlist x hs RESERVED o t v) (λ hs. enlist m hs RESERVED o t v) (λ h f. enlist-same n m x (walk n m) RESERVED o t v h (slots-same m x (h .at) f))
+  verdict-same (Onfree o t v) = asked-same o (λ hs. enlist x hs ACTIVE o t v) (λ hs. enlist m hs ACTIVE o t v) (λ h f. enlist-same n m x (walk n m) ACTIVE o t v h (slots-same m x (h .at) f))
+  verdict-same (Withdraw o) = asked-same o (λ hs. withdraw x o) (λ hs. withdraw m o) (λ h f. withdraw-same n m x (walk n m) o h (slots-same m x (h .at) f))
+  verdict-same (Activate o) = asked-same o (λ hs. activate x hs o) (λ hs. activate m hs o) (λ h f. activate-same n m x (walk n m) o h (slots-same m x (h .at) f))
+  verdict-same (Free o) = asked-same o (λ hs. free x hs o) (λ hs. free m hs o) (λ h f. free-same n m x (walk n m) o h (slots-same m x (h .at) f))
   verdict-same Check = sound-same _ _ refl
   verdict-same Recover =
       sound-same _ _ (ap (granted 0) (ap (recoverStores x) walk-same ∙ recover-same n m x (walk n m) g))

@@ -21,11 +21,12 @@ use Rattle.rules.specs.Stores.{emptying, setState, createStores, needOf, fits, 
 use Rattle.rules.specs.Requests.{Numbers, placed, reserve, finder, found, listed, enlist, withdrawn, withdraw, activate, mayDrop, free, verdict}
 use Rattle.rules.specs.Demands.{OneWord}
 use Rattle.word.specs.Memory.{mem-bound}
-use Rattle.laws.specs.Searches.{and-both, any-each, seek-each, seek-split, each-append, each-map}
+use Rattle.laws.specs.Searches.{those-each, and-both, any-each, seek-each, seek-split, each-append, each-map}
 use Rattle.laws.specs.Tilings.{tiles-le}
 use Rattle.laws.specs.Walks.{sound-tiles, no-faults}
 use Rattle.laws.specs.Walking.{Placed, all-placed, seek-placed}
 use Rattle.laws.specs.Mending.{settle, targets-valid, map-released, tiles-settle, tiles-freed}
+use Rattle.laws.specs.Behind.{behind-test, behind-sound, behind-settled, behind-found}
 use Rattle.laws.specs.Pools.{Sound, RightLength, right-length, pool-length}
 
 -- a valid target lies in the image, at an offset divisible by 8
@@ -57,29 +58,6 @@ Land n st = Each (Aligned n) st
 land-at : (n a i w : ℕ) → a % unit ≡ 0 → i % wordBytes ≡ 0 → a + i + wordBytes ≤ n → w < wordValues → Aligned n (store (a + i) w)
 land-at n a i w e k l u = record { even = omega arith; inside = l; small = u }
 
--- what holds of each store behind a test
-module _ (P : Store → Type 0) where
-  pub behind-test : (b : Bool) (a : ℕ) (v : Verdict) → (b ≡ false → Each P (storesOf v)) → Each P (storesOf (test b a v))
-  behind-test true a v f = tt
-  behind-test false a v f = f refl
-
-  behind-fault : (o : Option Fault) (v : Verdict) → (o ≡ none → Each P (storesOf v)) → Each P (storesOf (testFault o v))
-  behind-fault none v f = f refl
-  behind-fault (some k) v f = tt
-
-  pub behind-sound : (n : ℕ) (m : Mem) (v : Verdict) → (Sound n m → Each P (storesOf v)) → Each P (storesOf (ifSound n m v))
-  unfolding ifSound
-  behind-sound n m v f =
-      behind-test (not (isPool n m)) notPool _ (λ p. behind-fault (judge n m) v (λ j. f (record { pool = not-false _ p; sound = j })))
-
-  pub behind-settled : (n : ℕ) (m : Mem) (v : Verdict) → (Sound n m → Each P (storesOf v)) → Each P (storesOf (ifSettled n m v))
-  unfolding ifSettled
-  behind-settled n m v f = behind-sound n m _ (λ s. behind-test (unsettled (walk n m)) notSettled v (λ u. f s))
-
-  pub behind-found : (o : Option Head) (go : Head → Verdict) → ((h : Head) → o ≡ some h → Each P (storesOf (go h))) → Each P (storesOf (found o go))
-  behind-found none go f = tt
-  behind-found (some h) go f = f h refl
-
 -- the clump h lies in an image of n bytes, which a word can count
 pub record Lies (n : ℕ) (h : Head) : Type 0 where
   pub even : h .at % unit ≡ 0
@@ -105,15 +83,6 @@ slots-land n h l =
     let r = l .room in
     let k = l .least in
     ((omega arith, omega arith), ((omega arith, omega arith), ((omega arith, omega arith), tt)))
-
-pub those-each : {A : Type 0} (P : A → Type 0) (p : A → Bool) (xs : List A) → Each P xs → Each P (those p xs)
-unfolding those
-those-each P p [] f = tt
-those-each P p (x ∷ xs) f = go (p x) (those-each P p xs (f .1))
-  where
-    go : (b : Bool) → Each P (those p xs) → Each P (cond b (x ∷ those p xs) (those p xs))
-    go true r = (f .0, r)
-    go false r = r
 
 used-land : (n : ℕ) (m : Mem) (h : Head) → Lies n h → Each (Slot n) (usedSlots m (h .at))
 used-land n m h l = those-each (Slot n) (isUsed m) (slots (h .at)) (slots-land n h l)
@@ -172,7 +141,7 @@ listed-land n b none p t v f k l = tt
 listed-land n b (some s) p t v f k l =
     let e = f s refl .0 in
     let i = f s refl .1 in
-    behind-test (Aligned n) (not b) badTarget _ (λ z. (record { even = omega arith; inside = omega arith; small = l }, (record { even = e; inside = omega arith; small = k }, tt)))
+    behind-test (Land n) tt (not b) badTarget _ (λ z. (record { even = omega arith; inside = omega arith; small = l }, (record { even = e; inside = omega arith; small = k }, tt)))
 
 withdrawn-land : (n : ℕ) (sl : List ℕ) (p : ℕ) → Each (Slot n) sl → Land n (storesOf (withdrawn sl p))
 withdrawn-land n [] p f = tt
@@ -282,18 +251,18 @@ module _ (n : ℕ) (m : Mem) (b : (o : ℕ) → m o < wordValues) (s : Sound n m
   enlist-land : (a p t v : ℕ) (h : Head) → Lies n h → t < wordValues → v < wordValues → Land n (storesOf (enlist m (walk n m) a p t v h))
   unfolding enlist
   enlist-land a p t v h l k u =
-      behind-test (Aligned n) (not (hasState a h)) wrongState _
+      behind-test (Land n) tt (not (hasState a h)) wrongState _
       (λ z. listed-land n (isValid (walk n m) t) (seek (isEmpty m) (slots (h .at))) p t v (λ x e. seek-each (Slot n) (isEmpty m) (slots (h .at)) x e (slots-land n h l)) k u)
 
   withdraw-land : (p : ℕ) (h : Head) → Lies n h → Land n (storesOf (withdraw m p h))
   unfolding withdraw
-  withdraw-land p h l = behind-test (Aligned n) (not (isWaiting h)) wrongState _ (λ z. withdrawn-land n (usedSlots m (h .at)) p (used-land n m h l))
+  withdraw-land p h l = behind-test (Land n) tt (not (isWaiting h)) wrongState _ (λ z. withdrawn-land n (usedSlots m (h .at)) p (used-land n m h l))
 
   activate-land : (p : ℕ) (h : Head) → Lies n h → Land n (storesOf (activate m (walk n m) p h))
   unfolding activate activateStores
   activate-land p h l =
-      behind-test (Aligned n) (not (hasState RESERVED h)) wrongState _
-      (λ z. behind-test (Aligned n) (not (allValid m (walk n m) h)) badTarget _
+      behind-test (Land n) tt (not (hasState RESERVED h)) wrongState _
+      (λ z. behind-test (Land n) tt (not (allValid m (walk n m) h)) badTarget _
       (λ q. (land-state n h ACTIVATING l (omega arith), activated-land n m b (tiles n m s) h l (not-false _ q))))
 
   drop-land : (h : Head) → Lies n h → mayDrop m (walk n m) h ≡ true → Land n (dropStores m h)
@@ -307,8 +276,8 @@ module _ (n : ℕ) (m : Mem) (b : (o : ℕ) → m o < wordValues) (s : Sound n m
   free-land : (p : ℕ) (h : Head) → Lies n h → Land n (storesOf (free m (walk n m) p h))
   unfolding free freeStores
   free-land p h l =
-      behind-test (Aligned n) (not (isWaiting h)) wrongState _
-      (λ z. behind-test (Aligned n) (not (mayDrop m (walk n m) h)) badTarget _
+      behind-test (Land n) tt (not (isWaiting h)) wrongState _
+      (λ z. behind-test (Land n) tt (not (mayDrop m (walk n m) h)) badTarget _
       (λ q. each-append (Aligned n) (dropStores m h) (joinBoth (freeAfter (walk n m) h) (freeBefore (walk n m) h) h) (drop-land h l (not-false _ q))
       (both-land n (freeAfter (walk n m) h) (freeBefore (walk n m) h) h l
       (λ k e. (found-lies n m s _ k e, eqb-true (k .at) (endOf h) (and-both (isFree k) _ (seek-split _ (walk n m) k e .passes) .1)))
@@ -376,15 +345,15 @@ create-land n r =
 
 lands : (n : ℕ) (m : Mem) (q : Request) → ((o : ℕ) → m o < wordValues) → Numbers q → Land n (storesOf (verdict n m q))
 unfolding verdict reserve
-lands n m Create b k = behind-test (Aligned n) (not (rightLength n)) notPool _ (λ e. create-land n (right-length n (not-false _ e)))
-lands n m (Reserve size) b k = behind-settled (Aligned n) n m _ (λ s. behind-test (Aligned n) (eqb size 0) sizeZero _ (λ z. placed-land n m b s size (seek (fits (needOf size)) (walk n m)) refl))
-lands n m (Onactive o t v) b k = behind-settled (Aligned n) n m _ (λ s. behind-found (Aligned n) (finder (walk n m) o) _ (λ h e. enlist-land n m b s RESERVED o t v h (found-lies n m s _ h e) (k .1) (k .2)))
-lands n m (Onfree o t v) b k = behind-settled (Aligned n) n m _ (λ s. behind-found (Aligned n) (finder (walk n m) o) _ (λ h e. enlist-land n m b s ACTIVE o t v h (found-lies n m s _ h e) (k .1) (k .2)))
-lands n m (Withdraw o) b k = behind-settled (Aligned n) n m _ (λ s. behind-found (Aligned n) (finder (walk n m) o) _ (λ h e. withdraw-land n m b s o h (found-lies n m s _ h e)))
-lands n m (Activate o) b k = behind-settled (Aligned n) n m _ (λ s. behind-found (Aligned n) (finder (walk n m) o) _ (λ h e. activate-land n m b s o h (found-lies n m s _ h e)))
-lands n m (Free o) b k = behind-settled (Aligned n) n m _ (λ s. behind-found (Aligned n) (finder (walk n m) o) _ (λ h e. free-land n m b s o h (found-lies n m s _ h e)))
-lands n m Check b k = behind-sound (Aligned n) n m _ (λ s. tt)
-lands n m Recover b k = behind-sound (Aligned n) n m _ (λ s. recover-land n m b s)
+lands n m Create b k = behind-test (Land n) tt (not (rightLength n)) notPool _ (λ e. create-land n (right-length n (not-false _ e)))
+lands n m (Reserve size) b k = behind-settled (Land n) tt n m _ (λ s c. behind-test (Land n) tt (eqb size 0) sizeZero _ (λ z. placed-land n m b s size (seek (fits (needOf size)) (walk n m)) refl))
+lands n m (Onactive o t v) b k = behind-settled (Land n) tt n m _ (λ s c. behind-found (Land n) tt (finder (walk n m) o) _ (λ h e. enlist-land n m b s RESERVED o t v h (found-lies n m s _ h e) (k .1) (k .2)))
+lands n m (Onfree o t v) b k = behind-settled (Land n) tt n m _ (λ s c. behind-found (Land n) tt (finder (walk n m) o) _ (λ h e. enlist-land n m b s ACTIVE o t v h (found-lies n m s _ h e) (k .1) (k .2)))
+lands n m (Withdraw o) b k = behind-settled (Land n) tt n m _ (λ s c. behind-found (Land n) tt (finder (walk n m) o) _ (λ h e. withdraw-land n m b s o h (found-lies n m s _ h e)))
+lands n m (Activate o) b k = behind-settled (Land n) tt n m _ (λ s c. behind-found (Land n) tt (finder (walk n m) o) _ (λ h e. activate-land n m b s o h (found-lies n m s _ h e)))
+lands n m (Free o) b k = behind-settled (Land n) tt n m _ (λ s c. behind-found (Land n) tt (finder (walk n m) o) _ (λ h e. free-land n m b s o h (found-lies n m s _ h e)))
+lands n m Check b k = behind-sound (Land n) tt n m _ (λ s. tt)
+lands n m Recover b k = behind-sound (Land n) tt n m _ (λ s. recover-land n m b s)
 
 pub one-word : OneWord
 one-word img q b k = lands (length img) (mem img) q (λ o. mem-bound img o b) k

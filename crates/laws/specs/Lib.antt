@@ -11,5 +11,6 @@ pub mod Stored
 pub mod Mending
 pub mod Joins
 pub mod Served
+pub mod Behind
 pub mod Landing
 pub mod Named

@@ -88,7 +88,7 @@ second-none : (h : Head) (ks : List Head) → second (h ∷ ks) ≡ none → ks 
 second-none h [] e = refl
 second-none h (k ∷ ks) e = some-none refl e
 
-others-idle : (p : List Head) (h : Head) (q : List Head) → secondFault (p ++ (h ∷ q)) ≡ none → Each (λ k. isPending k ≡ false) p → isPending h ≡ true → Each (λ k. isPending k ≡ false) q
+pub others-idle : (p : List Head) (h : Head) (q : List Head) → secondFault (p ++ (h ∷ q)) ≡ none → Each (λ k. isPending k ≡ false) p → isPending h ≡ true → Each (λ k. isPending k ≡ false) q
 unfolding secondFault those
 others-idle p h q e f g = those-none q (second-none h (those isPending q) (rw (those-pass p (h ∷ q) f, g) at e))
 
@@ -101,7 +101,7 @@ targets-valid m hs h e f = go (allValid m hs h) refl (rw e at f)
     go true q g = q
     go false q g = some-none refl g
 
-all-each : (q : ℕ → Bool) (sl : List ℕ) → all q sl ≡ true → Each (λ s. q s ≡ true) sl
+pub all-each : (q : ℕ → Bool) (sl : List ℕ) → all q sl ≡ true → Each (λ s. q s ≡ true) sl
 unfolding all
 all-each q [] e = tt
 all-each q (s ∷ sl) e = let x = and-both (q s) (all q sl) e in (x .0, all-each q sl (x .1))

@@ -18,8 +18,9 @@ use Rattle.rules.specs.Clumps.{Head, bodyOf, endOf, headerBytes, leastClump, sl
 use Rattle.rules.specs.Stores.{emptying, setState, needOf, fits, leastRest, reserveStores, lastOf, finishActivating, finishFreeing, activateStores, dropStores, freeAfter, freeBefore, joinBefore, joinBoth, freeStores, finishing, releasing, released, Run, inFront, runs, joinRun, joining, recoverStores}
 use Rattle.rules.specs.Reading.{within, inPart}
 use Rattle.word.specs.Memory.{byte-put}
-use Rattle.laws.specs.Searches.{differ, and-both, or-neither, each-append, seek-each, seek-split}
-use Rattle.laws.specs.Landing.{those-each, last-each, behind-test, behind-sound, behind-settled, behind-found, found-lies, tiles}
+use Rattle.laws.specs.Searches.{those-each, differ, and-both, or-neither, each-append, seek-each, seek-split}
+use Rattle.laws.specs.Behind.{behind-test, behind-sound, behind-settled, behind-found}
+use Rattle.laws.specs.Landing.{last-each, found-lies, tiles}
 use Rattle.laws.specs.Pools.{Sound}
 use Rattle.rules.specs.declared.Request.{Request}
 use Rattle.rules.specs.declared.Request.the-variants.{Create, Reserve, Onactive, Onfree, Withdraw, Activate, Free, Check, Recover}
@@ -230,7 +231,7 @@ module _ (n i : ℕ) (m : Mem) (f : Each (Off i) (walk n m)) where
 
   listed-miss : (b : Bool) (o : Option ℕ) (p t v : ℕ) → ((s : ℕ) → o ≡ some s → Past i s) → Each (Miss i) (storesOf (listed b o p t v))
   listed-miss b none p t v g = tt
-  listed-miss b (some s) p t v g = behind-test (Miss i) (not b) badTarget _ (λ z. (value-miss i s v (g s refl), (target-miss i s t (g s refl), tt)))
+  listed-miss b (some s) p t v g = behind-test (Each (Miss i)) tt (not b) badTarget _ (λ z. (value-miss i s v (g s refl), (target-miss i s t (g s refl), tt)))
 
   withdrawn-miss : (sl : List ℕ) (p : ℕ) → Each (Past i) sl → Each (Miss i) (storesOf (withdrawn sl p))
   withdrawn-miss [] p g = tt
@@ -239,12 +240,12 @@ module _ (n i : ℕ) (m : Mem) (f : Each (Off i) (walk n m)) where
   enlist-miss : (a p t v : ℕ) (h : Head) → Off i h → Each (Miss i) (storesOf (enlist m (walk n m) a p t v h))
   unfolding enlist
   enlist-miss a p t v h o =
-      behind-test (Miss i) (not (hasState a h)) wrongState _
+      behind-test (Each (Miss i)) tt (not (hasState a h)) wrongState _
       (λ z. listed-miss (isValid (walk n m) t) (seek (isEmpty m) (slots (h .at))) p t v (λ s e. seek-each (Past i) (isEmpty m) (slots (h .at)) s e (slots-past i h o)))
 
   withdraw-miss : (p : ℕ) (h : Head) → Off i h → Each (Miss i) (storesOf (withdraw m p h))
   unfolding withdraw
-  withdraw-miss p h o = behind-test (Miss i) (not (isWaiting h)) wrongState _ (λ z. withdrawn-miss (usedSlots m (h .at)) p (used-past i m h o))
+  withdraw-miss p h o = behind-test (Each (Miss i)) tt (not (isWaiting h)) wrongState _ (λ z. withdrawn-miss (usedSlots m (h .at)) p (used-past i m h o))
 
   abbrev Unnamed : List Store → Type 0
   Unnamed st = any (λ s. within (s .to) (s .to + wordBytes) i) st ≡ false
@@ -252,8 +253,8 @@ module _ (n i : ℕ) (m : Mem) (f : Each (Off i) (walk n m)) where
   activate-miss : (p : ℕ) (h : Head) → Off i h → Unnamed (cond (hasState RESERVED h) (entries m (h .at)) []) → Each (Miss i) (storesOf (activate m (walk n m) p h))
   unfolding activate activateStores
   activate-miss p h o e =
-      behind-test (Miss i) (not (hasState RESERVED h)) wrongState _
-      (λ z. behind-test (Miss i) (not (allValid m (walk n m) h)) badTarget _
+      behind-test (Each (Miss i)) tt (not (hasState RESERVED h)) wrongState _
+      (λ z. behind-test (Each (Miss i)) tt (not (allValid m (walk n m) h)) badTarget _
       (λ q. (header-miss i 8 ACTIVATING h o (omega arith), activated-miss i m h o (subst (λ (b : Bool). Unnamed (cond b (entries m (h .at)) [])) (not-false (hasState RESERVED h) z) e))))
 
   drop-miss : (h : Head) → Off i h → Unnamed (cond (hasState ACTIVE h) (entries m (h .at)) []) → Each (Miss i) (dropStores m h)
@@ -267,8 +268,8 @@ module _ (n i : ℕ) (m : Mem) (f : Each (Off i) (walk n m)) where
   free-miss : (p : ℕ) (h : Head) → Off i h → Unnamed (cond (hasState ACTIVE h) (entries m (h .at)) []) → Each (Miss i) (storesOf (free m (walk n m) p h))
   unfolding free freeStores
   free-miss p h o e =
-      behind-test (Miss i) (not (isWaiting h)) wrongState _
-      (λ z. behind-test (Miss i) (not (mayDrop m (walk n m) h)) badTarget _
+      behind-test (Each (Miss i)) tt (not (isWaiting h)) wrongState _
+      (λ z. behind-test (Each (Miss i)) tt (not (mayDrop m (walk n m) h)) badTarget _
       (λ q. each-append (Miss i) (dropStores m h) (joinBoth (freeAfter (walk n m) h) (freeBefore (walk n m) h) h) (drop-miss h o e)
       (both-miss i (freeAfter (walk n m) h) (freeBefore (walk n m) h) h o (λ k x. found-off _ k x))))
 
@@ -296,27 +297,27 @@ misses : (n i : ℕ) (m : Mem) (q : Request) → isCreate q ≡ false → inPart
 unfolding verdict reserve
 misses n i m Create c p u = differ refl c
 misses n i m (Reserve size) c p u =
-    behind-settled (Miss i) n m _
-    (λ s. behind-test (Miss i) (eqb size 0) sizeZero _ (λ z. placed-miss n i m (off n i (walk n m) (tiles n m s) p) s (needOf size) (seek (fits (needOf size)) (walk n m)) refl))
+    behind-settled (Each (Miss i)) tt n m _
+    (λ s c. behind-test (Each (Miss i)) tt (eqb size 0) sizeZero _ (λ z. placed-miss n i m (off n i (walk n m) (tiles n m s) p) s (needOf size) (seek (fits (needOf size)) (walk n m)) refl))
 misses n i m (Onactive o t v) c p u =
-    behind-settled (Miss i) n m _
-    (λ s. let f = off n i (walk n m) (tiles n m s) p in behind-found (Miss i) (finder (walk n m) o) _ (λ h e. enlist-miss n i m f RESERVED o t v h (found-off n i m f _ h e)))
+    behind-settled (Each (Miss i)) tt n m _
+    (λ s c. let f = off n i (walk n m) (tiles n m s) p in behind-found (Each (Miss i)) tt (finder (walk n m) o) _ (λ h e. enlist-miss n i m f RESERVED o t v h (found-off n i m f _ h e)))
 misses n i m (Onfree o t v) c p u =
-    behind-settled (Miss i) n m _
-    (λ s. let f = off n i (walk n m) (tiles n m s) p in behind-found (Miss i) (finder (walk n m) o) _ (λ h e. enlist-miss n i m f ACTIVE o t v h (found-off n i m f _ h e)))
+    behind-settled (Each (Miss i)) tt n m _
+    (λ s c. let f = off n i (walk n m) (tiles n m s) p in behind-found (Each (Miss i)) tt (finder (walk n m) o) _ (λ h e. enlist-miss n i m f ACTIVE o t v h (found-off n i m f _ h e)))
 misses n i m (Withdraw o) c p u =
-    behind-settled (Miss i) n m _
-    (λ s. let f = off n i (walk n m) (tiles n m s) p in behind-found (Miss i) (finder (walk n m) o) _ (λ h e. withdraw-miss n i m f o h (found-off n i m f _ h e)))
+    behind-settled (Each (Miss i)) tt n m _
+    (λ s c. let f = off n i (walk n m) (tiles n m s) p in behind-found (Each (Miss i)) tt (finder (walk n m) o) _ (λ h e. withdraw-miss n i m f o h (found-off n i m f _ h e)))
 misses n i m (Activate o) c p u =
-    behind-settled (Miss i) n m _
-    (λ s. let f = off n i (walk n m) (tiles n m s) p in
-    behind-found (Miss i) (finder (walk n m) o) _ (λ h e. activate-miss n i m f o h (found-off n i m f _ h e) (entriesIf-some n i m f RESERVED (finder (walk n m) o) h e u)))
+    behind-settled (Each (Miss i)) tt n m _
+    (λ s c. let f = off n i (walk n m) (tiles n m s) p in
+    behind-found (Each (Miss i)) tt (finder (walk n m) o) _ (λ h e. activate-miss n i m f o h (found-off n i m f _ h e) (entriesIf-some n i m f RESERVED (finder (walk n m) o) h e u)))
 misses n i m (Free o) c p u =
-    behind-settled (Miss i) n m _
-    (λ s. let f = off n i (walk n m) (tiles n m s) p in
-    behind-found (Miss i) (finder (walk n m) o) _ (λ h e. free-miss n i m f o h (found-off n i m f _ h e) (entriesIf-some n i m f ACTIVE (finder (walk n m) o) h e u)))
-misses n i m Check c p u = behind-sound (Miss i) n m _ (λ s. tt)
-misses n i m Recover c p u = behind-sound (Miss i) n m _ (λ s. recover-miss n i m (off n i (walk n m) (tiles n m s) p) u)
+    behind-settled (Each (Miss i)) tt n m _
+    (λ s c. let f = off n i (walk n m) (tiles n m s) p in
+    behind-found (Each (Miss i)) tt (finder (walk n m) o) _ (λ h e. free-miss n i m f o h (found-off n i m f _ h e) (entriesIf-some n i m f ACTIVE (finder (walk n m) o) h e u)))
+misses n i m Check c p u = behind-sound (Each (Miss i)) tt n m _ (λ s. tt)
+misses n i m Recover c p u = behind-sound (Each (Miss i)) tt n m _ (λ s. recover-miss n i m (off n i (walk n m) (tiles n m s) p) u)
 
 pub only-named : OnlyNamed
 only-named img q fuse i c p u = carry-miss img (take fuse (storesFor img q)) i (each-take (Miss i) fuse (storesFor img q) (misses (length img) i (mem img) q c p u))

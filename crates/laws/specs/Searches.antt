@@ -1,11 +1,11 @@
 -- Laws of the rules' searches, choices and tests on lists, each by induction on the list. Assumes nothing.
 use mathlib.Core.Path.{_≡_, refl, sym, ap, _∙_, subst}
-use mathlib.Core.Bool.{Bool, true, false, _&&_, _||_}
+use mathlib.Core.Bool.{Bool, true, false, cond, _&&_, _||_}
 use mathlib.Core.Option.{Option, some, none}
 use mathlib.Core.List.{List, [], _∷_, _++_}
 use Prim.Native.Nat.{ℕ}
 use native.Mathlib.Omega.{arith}
-use Rattle.rules.specs.Lists.{seek, any, all, Each}
+use Rattle.rules.specs.Lists.{seek, those, any, all, Each}
 
 -- a Bool is not both
 pub differ {ℓ} : {A : Type ℓ} {b : Bool} → b ≡ true → b ≡ false → A
@@ -69,6 +69,11 @@ module _ {A : Type 0} where
   pub none-seek : (p : A → Bool) (xs : List A) → Each (λ y. p y ≡ false) xs → seek p xs ≡ none
   none-seek p [] e = seek-nil p
   none-seek p (y ∷ xs) e = seek-pass p y xs (e .0) ∙ none-seek p xs (e .1)
+
+  -- the first that passes, behind some that do not
+  pub seek-at : (p : A → Bool) (lower : List A) (x : A) (higher : List A) → Each (λ y. p y ≡ false) lower → p x ≡ true → seek p (lower ++ (x ∷ higher)) ≡ some x
+  seek-at p [] x higher e f = seek-hit p x higher f
+  seek-at p (y ∷ lower) x higher e f = seek-pass p y (lower ++ (x ∷ higher)) (e .0) ∙ seek-at p lower x higher (e .1) f
 
   -- tests that agree on a list find the same
   pub seek-same : (p q : A → Bool) (xs : List A) → Each (λ x. p x ≡ q x) xs → seek p xs ≡ seek q xs
@@ -135,3 +140,30 @@ module _ {A : Type 0} where
       go : (t : Bool) → p h ≡ t → (t || any p hs) ≡ true → (any p hs ≡ true → Each P hs → (k : A) × (p k ≡ true) × P k) → (k : A) × (p k ≡ true) × P k
       go true q e ih = (h, q, f .0)
       go false q e ih = ih e (f .1)
+
+  -- those that pass: each of them has what each had
+  pub those-each : (P : A → Type 0) (p : A → Bool) (xs : List A) → Each P xs → Each P (those p xs)
+  unfolding those
+  those-each P p [] f = tt
+  those-each P p (x ∷ xs) f = go (p x) (those-each P p xs (f .1))
+    where
+      go : (b : Bool) → Each P (those p xs) → Each P (cond b (x ∷ those p xs) (those p xs))
+      go true r = (f .0, r)
+      go false r = r
+
+  pub those-nil : (p : A → Bool) (xs : List A) → Each (λ y. p y ≡ false) xs → those p xs ≡ []
+  unfolding those
+  those-nil p [] e = refl
+  those-nil p (x ∷ xs) e = rw (e .0) (those-nil p xs (e .1))
+
+  pub those-append : (p : A → Bool) (xs ys : List A) → those p (xs ++ ys) ≡ those p xs ++ those p ys
+  unfolding those
+  those-append p [] ys = refl
+  those-append p (x ∷ xs) ys = go (p x) (those-append p xs ys)
+    where
+      go :
+          (b : Bool)
+          → those p (xs ++ ys) ≡ those p xs ++ those p ys
+          → cond b (x ∷ those p (xs ++ ys)) (those p (xs ++ ys)) ≡ cond b (x ∷ those p xs) (those p xs) ++ those p ys
+      go true r = ap (λ (l : List A). x ∷ l) r
+      go false r = r

@@ -94,7 +94,7 @@ tiles-from (suc k) n a m e l g = go (ltb a n) refl (isFaulty n m (head m a)) ref
         (c .sits, ih (sym (seek-pass (isFaulty n m) (head m a) (headsFrom k n m (a + m a)) q) ∙ (rw (p, headsFrom) at e)) (c .inside) (omega (arith, c .sits .least)))
     go false p u q ih = rw (p, headsFrom) (omega (arith, ltb-false a n p))
 
-map-none : {A B : Type 0} (f : A → B) (o : Option A) → Option·map f o ≡ none → o ≡ none
+pub map-none : {A B : Type 0} (f : A → B) (o : Option A) → Option·map f o ≡ none → o ≡ none
 map-none f none e = refl
 map-none f (some x) e = some-none refl e
 

@@ -1,0 +1,65 @@
+-- What recovery will make of a pool, whatever its state: the clumps that it keeps, with their lists, and the words of those places that
+-- no header covers. Every cut of a request is shown to leave this as it was: the law is `replaced`, by which a part of the clumps is
+-- replaced by another that tiles as much and keeps as much. By the laws of the parts. Assumes nothing.
+use Prim.Native.Nat.{ℕ, _+_, _<_, _≤_}
+use mathlib.Core.Path.{_≡_, refl, sym, ap, ap₂, subst, _∙_}
+use mathlib.Core.Bool.{Bool, true, false, cond, not, _&&_, _||_}
+use mathlib.Core.Logic.{_⊎_, inl, inr, ⊎-elim}
+use mathlib.Core.List.{List, [], _∷_, _++_, map}
+use native.Mathlib.Omega.{arith}
+use Rattle.rules.specs.Lists.{those, any, Each}
+use Rattle.rules.specs.Words.{Mem, Store, after, upd, wordBytes}
+use Rattle.rules.specs.Pages.{clumpsAt, staticAt, staticEnd, headerAt}
+use Rattle.rules.specs.Clumps.{Head, bodyOf, endOf, hasState, headerBytes, leastClump, stateAt, isPending, slots, entries, ACTIVATING, ACTIVE, Tiles}
+use Rattle.rules.specs.Sound.{listBad}
+use Rattle.rules.specs.Reading.{within}
+use Rattle.word.specs.Memory.{upd-other}
+use Rattle.laws.specs.Searches.{those-each, those-nil, those-append, each-append, each-map}
+use Rattle.laws.specs.Tilings.{tiles-le, tiles-split, tiles-join}
+use Rattle.laws.specs.Walks.{Reads}
+use Rattle.laws.specs.Headers.{AgreeAt, Agree, AgreePage, slots-same, entries-same, list-same, map-same, pool-same}
+use Rattle.laws.specs.Stored.{withState, reads-append, reads-left, reads-right}
+use Rattle.loss.specs.Held.{Held, Idle, Pends}
+
+-- a clump that recovery keeps is ACTIVE then, and has its list, or none if that is being carried out
+pub record Kept : Type 0 where
+  pub clump : Head
+  pub list : List Store
+
+abbrev pub isKept : Head → Bool
+isKept h = hasState ACTIVE h || hasState ACTIVATING h
+
+abbrev pub keptOf : Mem → Head → Kept
+keptOf m h = record { clump = withState h ACTIVE; list = cond (hasState ACTIVE h) (entries m (h .at)) [] }
+
+unfoldable pub fates : Mem → List Head → List Kept
+fates m hs = map (keptOf m) (those isKept hs)
+
+-- the word at o is none of a header's
+abbrev pub Beyond : ℕ → Head → Type 0
+Beyond o h = (o < h .at) ⊎ (bodyOf h ≤ o)
+
+-- the words that the reading has, if k is what is kept: the static area and the bodies
+abbrev pub Owned : List Kept → ℕ → Type 0
+Owned k o = (within staticAt staticEnd o || any (λ c. within (bodyOf (c .clump)) (endOf (c .clump)) o) k) ≡ true
+
+-- recovery will keep k, and at each place of D leave the word that w has
+module _ (n : ℕ) (D : ℕ → Type 0) (k : List Kept) (w : Mem) where
+  -- at rest
+  pub record Rests (m : Mem) (hs : List Head) : Type 0 where
+    pub held : Held n m hs
+    pub idle : Each Idle hs
+    pub kept : fates m hs ≡ k
+    pub words : (o : ℕ) → D o → m o ≡ w o
+    pub off : (o : ℕ) → D o → Each (Beyond o) hs
+
+  -- with a list being carried out
+  pub record Leads (m : Mem) (p : List Head) (h : Head) (q : List Head) : Type 0 where
+    pub pends : Pends n m p h q
+    pub kept : fates m (p ++ (h ∷ q)) ≡ k
+    pub words : (o : ℕ) → D o → after m (entries m (h .at)) o ≡ w o
+    pub off : (o : ℕ) → D o → Each (Beyond o) (p ++ (h ∷ q))
+
+  pub data Led (m : Mem) : Type 0 where
+    resting : {hs : List Head} → Rests m hs → Led m
+    leading : {p : List Head} {h : Head} {q : List Head} → Leads m p h q → Led m

@@ -1,0 +1,1 @@
+// What power loss leaves: theorems about cuts, recovery and histories, in specs/. Holds no function.

@@ -71,30 +71,31 @@ those-same m x (s ∷ sl) e =
     ap (λ (l : List ℕ). cond (isUsed x s) (s ∷ l) l) (those-same m x sl (e .1))
     ∙ ap (λ (w : ℕ). cond (not (eqb w 0)) (s ∷ those (isUsed m) sl) (those (isUsed m) sl)) (e .0 .0)
 
-module _ (m x : Mem) (a : ℕ) (g : SameSlots m x (slots a)) where
-  pub used-same : usedSlots x a ≡ usedSlots m a
-  used-same = those-same m x (slots a) g
+-- the used ones among them
+module _ (m x : Mem) (sl : List ℕ) (g : SameSlots m x sl) where
+  pub used-same : those (isUsed x) sl ≡ those (isUsed m) sl
+  used-same = those-same m x sl g
 
-  used-words : SameSlots m x (usedSlots m a)
-  used-words = those-each (λ s. (x s ≡ m s) × (x (valueAt s) ≡ m (valueAt s))) (isUsed m) (slots a) g
+  used-words : SameSlots m x (those (isUsed m) sl)
+  used-words = those-each (λ s. (x s ≡ m s) × (x (valueAt s) ≡ m (valueAt s))) (isUsed m) sl g
 
-  pub entries-same : entries x a ≡ entries m a
+  pub entries-same : map (entry x) (those (isUsed x) sl) ≡ map (entry m) (those (isUsed m) sl)
   entries-same =
       ap (map (entry x)) used-same
-      ∙ map-same (entry x) (entry m) (usedSlots m a)
-      (each-map (λ s. (x s ≡ m s) × (x (valueAt s) ≡ m (valueAt s))) (λ s. entry x s ≡ entry m s) (usedSlots m a)
+      ∙ map-same (entry x) (entry m) (those (isUsed m) sl)
+      (each-map (λ s. (x s ≡ m s) × (x (valueAt s) ≡ m (valueAt s))) (λ s. entry x s ≡ entry m s) (those (isUsed m) sl)
       (λ s e i. record { to = e .0 i; word = e .1 i }) used-words)
 
-  empty-same : seek (isEmpty x) (slots a) ≡ seek (isEmpty m) (slots a)
+  empty-same : seek (isEmpty x) sl ≡ seek (isEmpty m) sl
   empty-same =
-      seek-same (isEmpty x) (isEmpty m) (slots a)
-      (each-map (λ s. (x s ≡ m s) × (x (valueAt s) ≡ m (valueAt s))) (λ s. isEmpty x s ≡ isEmpty m s) (slots a)
+      seek-same (isEmpty x) (isEmpty m) sl
+      (each-map (λ s. (x s ≡ m s) × (x (valueAt s) ≡ m (valueAt s))) (λ s. isEmpty x s ≡ isEmpty m s) sl
       (λ s e. ap (λ (w : ℕ). eqb w 0) (e .0)) g)
 
   -- a test of each used target
-  used-test : (p : ℕ → Bool) → Each (λ s. p (x s) ≡ p (m s)) (usedSlots m a)
+  used-test : (p : ℕ → Bool) → Each (λ s. p (x s) ≡ p (m s)) (those (isUsed m) sl)
   used-test p =
-      each-map (λ s. (x s ≡ m s) × (x (valueAt s) ≡ m (valueAt s))) (λ s. p (x s) ≡ p (m s)) (usedSlots m a) (λ s e. ap p (e .0)) used-words
+      each-map (λ s. (x s ≡ m s) × (x (valueAt s) ≡ m (valueAt s))) (λ s. p (x s) ≡ p (m s)) (those (isUsed m) sl) (λ s e. ap p (e .0)) used-words
 
 gapped-same : (m x : Mem) (sl : List ℕ) → SameSlots m x sl → gapped x sl ≡ gapped m sl
 unfolding gapped
@@ -110,9 +111,9 @@ module _ (n : ℕ) (m x : Mem) (hs : List Head) where
   unfolding listBad
   list-same h g =
       ap₂ (λ (b c : Bool). isWaiting h && (b || c)) (gapped-same m x (slots (h .at)) g)
-      (ap (any (λ s. not (inPlace n (targetAt x s)))) (used-same m x (h .at) g)
+      (ap (any (λ s. not (inPlace n (targetAt x s)))) (used-same m x (slots (h .at)) g)
       ∙ any-same (λ s. not (inPlace n (targetAt x s))) (λ s. not (inPlace n (targetAt m s))) (usedSlots m (h .at))
-      (used-test m x (h .at) g (λ w. not (inPlace n w))))
+      (used-test m x (slots (h .at)) g (λ w. not (inPlace n w))))
 
   fault-same : (h : Head) → SameSlots m x (slots (h .at)) → faultOf n x h ≡ faultOf n m h
   unfolding faultOf
@@ -121,8 +122,8 @@ module _ (n : ℕ) (m x : Mem) (hs : List Head) where
   pub valid-same : (h : Head) → SameSlots m x (slots (h .at)) → allValid x hs h ≡ allValid m hs h
   unfolding allValid
   valid-same h g =
-      ap (all (λ s. isValid hs (targetAt x s))) (used-same m x (h .at) g)
-      ∙ all-same (λ s. isValid hs (targetAt x s)) (λ s. isValid hs (targetAt m s)) (usedSlots m (h .at)) (used-test m x (h .at) g (isValid hs))
+      ap (all (λ s. isValid hs (targetAt x s))) (used-same m x (slots (h .at)) g)
+      ∙ all-same (λ s. isValid hs (targetAt x s)) (λ s. isValid hs (targetAt m s)) (usedSlots m (h .at)) (used-test m x (slots (h .at)) g (isValid hs))
 
   -- what is made of the clump that a search finds
   found-same :
@@ -156,11 +157,11 @@ module _ (n : ℕ) (m x : Mem) (hs : List Head) where
   pub finish-activating-same : (h : Head) → SameSlots m x (slots (h .at)) → finishActivating x h ≡ finishActivating m h
   unfolding finishActivating
   finish-activating-same h g =
-      ap₂ (λ (st : List Store) (sl : List ℕ). st ++ (emptying sl ++ (setState h ACTIVE ∷ []))) (entries-same m x (h .at) g) (used-same m x (h .at) g)
+      ap₂ (λ (st : List Store) (sl : List ℕ). st ++ (emptying sl ++ (setState h ACTIVE ∷ []))) (entries-same m x (slots (h .at)) g) (used-same m x (slots (h .at)) g)
 
   pub finish-freeing-same : (h : Head) → SameSlots m x (slots (h .at)) → finishFreeing x h ≡ finishFreeing m h
   unfolding finishFreeing
-  finish-freeing-same h g = ap (λ (st : List Store). st ++ (setState h FREE ∷ [])) (entries-same m x (h .at) g)
+  finish-freeing-same h g = ap (λ (st : List Store). st ++ (setState h FREE ∷ [])) (entries-same m x (slots (h .at)) g)
 
   recover-same : Agree m x hs → recoverStores x hs ≡ recoverStores m hs
   unfolding recoverStores
@@ -173,11 +174,11 @@ module _ (n : ℕ) (m x : Mem) (hs : List Head) where
   enlist-same : (allowed o t v : ℕ) (h : Head) → SameSlots m x (slots (h .at)) → enlist x hs allowed o t v h ≡ enlist m hs allowed o t v h
   unfolding enlist
   enlist-same allowed o t v h g =
-      ap (λ (e : Option ℕ). test (not (hasState allowed h)) wrongState (listed (isValid hs t) e o t v)) (empty-same m x (h .at) g)
+      ap (λ (e : Option ℕ). test (not (hasState allowed h)) wrongState (listed (isValid hs t) e o t v)) (empty-same m x (slots (h .at)) g)
 
   withdraw-same : (o : ℕ) (h : Head) → SameSlots m x (slots (h .at)) → withdraw x o h ≡ withdraw m o h
   unfolding withdraw
-  withdraw-same o h g = ap (λ (sl : List ℕ). test (not (isWaiting h)) wrongState (withdrawn sl o)) (used-same m x (h .at) g)
+  withdraw-same o h g = ap (λ (sl : List ℕ). test (not (isWaiting h)) wrongState (withdrawn sl o)) (used-same m x (slots (h .at)) g)
 
   activate-same : (o : ℕ) (h : Head) → SameSlots m x (slots (h .at)) → activate x hs o h ≡ activate m hs o h
   unfolding activate activateStores

@@ -55,7 +55,7 @@ off-below a b i (h ∷ hs) t l =
     let e = t .0 .here in
     (record { header = inl (omega arith); whole = λ z. inl (omega arith) }, off-below (a + h .nbytes) b i hs (t .1) (omega arith))
 
-abbrev inBody : ℕ → Head → Bool
+abbrev pub inBody : ℕ → Head → Bool
 inBody i h = isLive h && within (bodyOf h) (endOf h) i
 
 body-in : (i : ℕ) (h : Head) → inBody i h ≡ true → (isFree h ≡ false) × (bodyOf h ≤ i) × (i < endOf h)
@@ -64,7 +64,7 @@ body-in i h e =
     let y = and-both (leb (bodyOf h) i) _ (x .1) in
     (not-true _ (x .0), leb-true (bodyOf h) i (y .0), ltb-true i (endOf h) (y .1))
 
-body-above : (a b i : ℕ) (hs : List Head) → Tiles a hs b → any (inBody i) hs ≡ true → a ≤ i
+pub body-above : (a b i : ℕ) (hs : List Head) → Tiles a hs b → any (inBody i) hs ≡ true → a ≤ i
 unfolding any
 body-above a b i [] t e = differ e refl
 body-above a b i (h ∷ hs) t e = go (inBody i h) refl e (body-above (a + h .nbytes) b i hs (t .1))

@@ -1,10 +1,11 @@
 -- Laws of the rules' searches, choices and tests on lists, each by induction on the list. Assumes nothing.
 use mathlib.Core.Path.{_≡_, refl, sym, ap, _∙_, subst}
-use mathlib.Core.Bool.{Bool, true, false, cond, _&&_, _||_}
+use mathlib.Core.Bool.{Bool, true, false, cond, _&&_, _||_, or-true}
 use mathlib.Core.Option.{Option, some, none}
 use mathlib.Core.List.{List, [], _∷_, _++_}
-use Prim.Native.Nat.{ℕ}
+use Prim.Native.Nat.{ℕ, zero, suc}
 use native.Mathlib.Omega.{arith}
+use lib.ListN.{drop}
 use Rattle.rules.specs.Lists.{seek, those, any, all, Each}
 
 -- a Bool is not both
@@ -98,6 +99,19 @@ module _ {A : Type 0} where
   each-append P [] ys f g = g
   each-append P (x ∷ xs) ys f g = (f .0, each-append P xs ys (f .1) g)
 
+  pub each-left : (P : A → Type 0) (xs ys : List A) → Each P (xs ++ ys) → Each P xs
+  each-left P [] ys f = tt
+  each-left P (x ∷ xs) ys f = (f .0, each-left P xs ys (f .1))
+
+  pub each-right : (P : A → Type 0) (xs ys : List A) → Each P (xs ++ ys) → Each P ys
+  each-right P [] ys f = f
+  each-right P (x ∷ xs) ys f = each-right P xs ys (f .1)
+
+  pub each-drop : (P : A → Type 0) (k : ℕ) (xs : List A) → Each P xs → Each P (drop k xs)
+  each-drop P zero xs f = f
+  each-drop P (suc k) [] f = tt
+  each-drop P (suc k) (x ∷ xs) f = each-drop P k xs (f .1)
+
   pub each-map : (P Q : A → Type 0) (xs : List A) → ((x : A) → P x → Q x) → Each P xs → Each Q xs
   each-map P Q [] h f = tt
   each-map P Q (x ∷ xs) h f = (h x (f .0), each-map P Q xs h (f .1))
@@ -120,6 +134,15 @@ module _ {A : Type 0} where
   unfolding any
   none-any p [] e = refl
   none-any p (x ∷ xs) e = rw (e .0) (none-any p xs (e .1))
+
+  pub any-implies : (p q : A → Bool) (xs : List A) → ((x : A) → p x ≡ true → q x ≡ true) → any p xs ≡ true → any q xs ≡ true
+  unfolding any
+  any-implies p q [] f e = e
+  any-implies p q (x ∷ xs) f e = go (p x) refl e (any-implies p q xs f)
+    where
+      go : (b : Bool) → p x ≡ b → (b || any p xs) ≡ true → (any p xs ≡ true → any q xs ≡ true) → (q x || any q xs) ≡ true
+      go true i e ih = rw (f x i)
+      go false i e ih = rw (ih e) (or-true (q x))
 
   pub any-same : (p q : A → Bool) (xs : List A) → Each (λ x. p x ≡ q x) xs → any p xs ≡ any q xs
   unfolding any
@@ -155,6 +178,15 @@ module _ {A : Type 0} where
   unfolding those
   those-nil p [] e = refl
   those-nil p (x ∷ xs) e = rw (e .0) (those-nil p xs (e .1))
+
+  pub nil-those : (p : A → Bool) (xs : List A) → those p xs ≡ [] → Each (λ y. p y ≡ false) xs
+  unfolding those
+  nil-those p [] e = tt
+  nil-those p (x ∷ xs) e = go (p x) refl e (nil-those p xs)
+    where
+      go : (b : Bool) → p x ≡ b → cond b (x ∷ those p xs) (those p xs) ≡ [] → (those p xs ≡ [] → Each (λ y. p y ≡ false) xs) → Each (λ y. p y ≡ false) (x ∷ xs)
+      go true q f ih = absurd (let z : _≡_ {A = ℕ} 0 1 = cc in omega arith)
+      go false q f ih = (q, ih f)
 
   pub those-append : (p : A → Bool) (xs ys : List A) → those p (xs ++ ys) ≡ those p xs ++ those p ys
   unfolding those

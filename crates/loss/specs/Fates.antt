@@ -1,6 +1,5 @@
 -- What recovery will make of a pool, whatever its state: the clumps that it keeps, with their lists, and the words of those places that
--- no header covers. Every cut of a request is shown to leave this as it was: the law is `replaced`, by which a part of the clumps is
--- replaced by another that tiles as much and keeps as much. By the laws of the parts. Assumes nothing.
+-- no header covers. By the laws of choices in lists. Assumes nothing.
 use Prim.Native.Nat.{ℕ, _+_, _<_, _≤_}
 use mathlib.Core.Path.{_≡_, refl, sym, ap, ap₂, subst, _∙_}
 use mathlib.Core.Bool.{Bool, true, false, cond, not, _&&_, _||_}
@@ -34,6 +33,32 @@ keptOf m h = record { clump = withState h ACTIVE; list = cond (hasState ACTIVE h
 
 unfoldable pub fates : Mem → List Head → List Kept
 fates m hs = map (keptOf m) (those isKept hs)
+
+map-append : {A B : Type 0} (f : A → B) (xs ys : List A) → map f (xs ++ ys) ≡ map f xs ++ map f ys
+map-append f [] ys = refl
+map-append f (x ∷ xs) ys = ap (λ l. f x ∷ l) (map-append f xs ys)
+
+pub fates-append : (m : Mem) (p q : List Head) → fates m (p ++ q) ≡ fates m p ++ fates m q
+unfolding fates
+fates-append m p q = ap (map (keptOf m)) (those-append isKept p q) ∙ map-append (keptOf m) (those isKept p) (those isKept q)
+
+-- none is kept of clumps that recovery frees
+pub fates-none : (m : Mem) (hs : List Head) → Each (λ h. isKept h ≡ false) hs → fates m hs ≡ []
+unfolding fates
+fates-none m hs e = ap (map (keptOf m)) (those-nil isKept hs e)
+
+pub fates-one : (m : Mem) (h : Head) → isKept h ≡ true → fates m (h ∷ []) ≡ keptOf m h ∷ []
+unfolding fates those
+fates-one m h e = rw e
+
+-- the headers tell what is kept
+pub fates-agree : (m x : Mem) (hs : List Head) → Agree m x hs → fates x hs ≡ fates m hs
+unfolding fates
+fates-agree m x hs g =
+    map-same (keptOf x) (keptOf m) (those isKept hs)
+    (each-map (λ h. AgreeAt m x (h .at)) (λ h. keptOf x h ≡ keptOf m h) (those isKept hs)
+    (λ h f. ap (λ (st : List Store). record { clump = withState h ACTIVE; list = cond (hasState ACTIVE h) st [] }) (entries-same m x (slots (h .at)) (slots-same m x (h .at) f)))
+    (those-each (λ h. AgreeAt m x (h .at)) isKept hs g))
 
 -- the word at o is none of a header's
 abbrev pub Beyond : ℕ → Head → Type 0

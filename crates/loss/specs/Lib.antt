@@ -2,3 +2,14 @@
 pub mod Cuts
 pub mod Held
 pub mod Fates
+pub mod Parts
+pub mod Redo
+pub mod Emptied
+pub mod Targets
+pub mod Finishing
+pub mod Calm
+pub mod Neighbours
+pub mod Joined
+pub mod Gaps
+pub mod Slices
+pub mod Readings

@@ -61,11 +61,11 @@ tiles-freed a b (h ∷ hs) t = (
 settle-idle : (h : Head) → isPending h ≡ false → settle h ≡ h
 settle-idle h e = let x = or-neither (hasState ACTIVATING h) (hasState FREEING h) e in ap (withState h) (rw (x .0, x .1))
 
-map-idle : (hs : List Head) → Each (λ h. isPending h ≡ false) hs → map settle hs ≡ hs
+pub map-idle : (hs : List Head) → Each (λ h. isPending h ≡ false) hs → map settle hs ≡ hs
 map-idle [] e = refl
 map-idle (h ∷ hs) e = ap₂ _∷_ (settle-idle h (e .0)) (map-idle hs (e .1))
 
-map-split : (p : List Head) (h : Head) (q : List Head) → Each (λ k. isPending k ≡ false) p → Each (λ k. isPending k ≡ false) q → map settle (p ++ (h ∷ q)) ≡ p ++ (settle h ∷ q)
+pub map-split : (p : List Head) (h : Head) (q : List Head) → Each (λ k. isPending k ≡ false) p → Each (λ k. isPending k ≡ false) q → map settle (p ++ (h ∷ q)) ≡ p ++ (settle h ∷ q)
 map-split [] h q e f = ap (λ (ks : List Head). settle h ∷ ks) (map-idle q f)
 map-split (k ∷ p) h q e f = ap₂ _∷_ (settle-idle k (e .0)) (map-split p h q (e .1) f)
 

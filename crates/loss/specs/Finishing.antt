@@ -27,7 +27,7 @@ use Rattle.laws.specs.Mending.{settle}
 use Rattle.loss.specs.Cuts.{Every, every-append, cuts-every}
 use Rattle.loss.specs.Held.{Held, Idle, Pends}
 use Rattle.loss.specs.Fates.{Kept, isKept, fates, fates-none, fates-one, fates-agree, Beyond, Rests, Leads, Led, resting, leading}
-use Rattle.loss.specs.Parts.{Elsewhere, one-store, state-slots, Parted, parted-one, Segment, reads-agree, lists-agree, held-replaced, fates-replaced}
+use Rattle.loss.specs.Parts.{Elsewhere, state-slots, Parted, parted-one, Segment, reads-agree, lists-agree, held-replaced, fates-replaced, held-state, fates-state, state-word, each-other}
 use Rattle.loss.specs.Redo.{Spares, after-spared, after-at, redo-start, redo-end}
 use Rattle.loss.specs.Emptied.{emptied, empty-good}
 use Rattle.loss.specs.Targets.{valid-entries, entries-valid, assigned-headers, assigned-page}
@@ -72,7 +72,7 @@ busy h e = go (hasState ACTIVATING h) refl e
     go true q f = inl (eqb-true (h .state) ACTIVATING q)
     go false q f = inr (eqb-true (h .state) FREEING f)
 
-busy-good : (n : ℕ) (m : Mem) (h : Head) → isPending h ≡ true → listBad n m h ≡ false
+pub busy-good : (n : ℕ) (m : Mem) (h : Head) → isPending h ≡ true → listBad n m h ≡ false
 unfolding listBad
 busy-good n m h e = ⊎-elim (λ (z : h .state ≡ ACTIVATING). rw z) (λ (z : h .state ≡ FREEING). rw z) (busy h e)
 
@@ -191,25 +191,13 @@ module _ (n : ℕ) (D : ℕ → Type 0) (k : List Kept) (w y : Mem) (p : List He
       → ((o : ℕ) → D o → y o ≡ w o)
       → Rests n D k w (upd y (stateAt (h .at)) s) (p ++ (withState h s ∷ q))
   to-rest f l i b g u =
-      let a = h .at in
-      let x = upd y (stateAt a) s in
-      let r = parted-one n p h q (f .pends .held .tiles) in
-      let t = r .part .0 in
-      let z = t .least in
-      let e = one-store y a (endOf h) (stateAt a) s (omega arith) (omega arith) in
-      let v = reads-right y p (h ∷ q) (f .pends .held .reads) in
+      let e = f .pends .held in
       record {
-        held =
-            held-replaced n y x p a (h ∷ []) (withState h s ∷ []) (endOf h) q r e (f .pends .held)
-            (record {
-              tiles = (record { here = refl; least = t .least; whole = t .whole; known = l }, refl);
-              reads = (upd-other y (stateAt a) s a (omega arith) ∙ v .0, upd-same y (stateAt a) s, tt);
-              lists = (b, tt);
-            });
+        held = held-state n y p h q s e l b;
         idle = each-append Idle p (withState h s ∷ q) (f .pends .below) (i, f .pends .above);
-        kept = fates-replaced n y x p a (h ∷ []) (withState h s ∷ []) (endOf h) q r e g ∙ f .kept;
-        words = λ o d. upd-other y (stateAt a) s o (λ c. ⊎-elim (λ j. absurd (omega arith)) (λ j. absurd (omega arith)) (each-right (Beyond o) p (h ∷ q) (f .off o d) .0)) ∙ u o d;
-        off = λ o d. each-append (Beyond o) p (withState h s ∷ q) (each-left (Beyond o) p (h ∷ q) (f .off o d)) (let c = each-right (Beyond o) p (h ∷ q) (f .off o d) in (c .0, c .1));
+        kept = fates-state n y p h q s e g ∙ f .kept;
+        words = λ o d. state-word n y p h q s e o (f .off o d) ∙ u o d;
+        off = λ o d. each-other (Beyond o) p h (withState h s) q (λ c. c) (f .off o d);
       }
 
 -- the list carried out and the clump at rest, cut after any store

@@ -1,14 +1,16 @@
 -- The runs of touching FREE clumps: they are the clumps, each of more than one is FREE throughout, and joined they touch no more. Each by
 -- induction on the clumps, with a law for one clump in front. Assumes nothing.
+use Prim.Native.Nat.{_+_}
 use mathlib.Core.Path.{_≡_, refl, ap, _∙_}
 use mathlib.Core.Bool.{Bool, true, false, cond, _&&_, and-false}
 use mathlib.Core.List.{List, [], _∷_, _++_, map}
+use native.Mathlib.Omega.{arith}
 use Rattle.rules.specs.Lists.{Each}
 use Rattle.rules.specs.Clumps.{Head, isFree}
 use Rattle.rules.specs.Sound.{touching}
 use Rattle.rules.specs.Answers.{bytesOf}
 use Rattle.rules.specs.Stores.{Run, inFront, runs, joining}
-use Rattle.laws.specs.Searches.{or-neither, and-both}
+use Rattle.laws.specs.Searches.{or-neither, and-both, each-right}
 
 -- a run of one clump
 abbrev pub lone : Head → Run
@@ -26,9 +28,16 @@ in-front P h r rs f g = go (isFree h && isFree (r .first)) refl
     go true e = let x = and-both (isFree h) (isFree (r .first)) e in f (x .0) (x .1)
     go false e = g e
 
--- the clump that a run is joined to
+-- the clump that a run is joined to: it stands where the first stands and is as large as all
+abbrev pub joinedTo : Head → List Head → Head
+joinedTo h ks = record { at = h .at; nbytes = bytesOf (h ∷ ks); state = h .state }
+
 abbrev pub whole : Run → Head
-whole r = record { at = r .first .at; nbytes = bytesOf (r .first ∷ r .more); state = r .first .state }
+whole r = joinedTo (r .first) (r .more)
+
+pub whole-lone : (h : Head) → whole (lone h) ≡ h
+unfolding bytesOf
+whole-lone h = let e : h .nbytes + 0 ≡ h .nbytes = omega arith in (λ i. record { at = h .at; nbytes = e i; state = h .state })
 
 -- the clumps of the runs, in order
 unfoldable pub flat : List Run → List Head
@@ -96,3 +105,9 @@ joining-lone (h ∷ hs) = joining-lone hs
 -- and there is nothing to join
 pub calm-joins : (hs : List Head) → touching hs ≡ false → joining (runs hs) ≡ []
 calm-joins hs e = ap joining (calm-runs hs e) ∙ joining-lone hs
+
+-- what holds of each clump holds of each run's first
+pub first-each : (P : Head → Type 0) (rs : List Run) → Each P (flat rs) → Each (λ r. P (r .first)) rs
+unfolding flat
+first-each P [] e = tt
+first-each P (r ∷ rs) e = (e .0, first-each P rs (each-right P (r .more) (flat rs) (e .1)))

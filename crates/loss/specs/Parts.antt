@@ -9,14 +9,14 @@ use native.Mathlib.Omega.{arith}
 use Rattle.rules.specs.Lists.{Each}
 use Rattle.rules.specs.Words.{Mem, upd}
 use Rattle.rules.specs.Pages.{clumpsAt}
-use Rattle.rules.specs.Clumps.{Head, endOf, stateAt, slots, Tiles}
+use Rattle.rules.specs.Clumps.{Head, endOf, stateAt, slots, FREEING, Tiles}
 use Rattle.rules.specs.Sound.{listBad}
-use Rattle.word.specs.Memory.{upd-other}
+use Rattle.word.specs.Memory.{upd-same, upd-other}
 use Rattle.laws.specs.Searches.{each-append, each-left, each-right}
 use Rattle.laws.specs.Tilings.{tiles-le, tiles-split, tiles-join}
 use Rattle.laws.specs.Walks.{Reads}
 use Rattle.laws.specs.Headers.{AgreeAt, Agree, AgreePage, SameSlots, slots-same, list-same, pool-same}
-use Rattle.laws.specs.Stored.{reads-append, reads-left, reads-right}
+use Rattle.laws.specs.Stored.{withState, reads-append, reads-left, reads-right}
 use Rattle.loss.specs.Held.{Held, Idle}
 use Rattle.loss.specs.Fates.{Kept, fates, fates-append, fates-agree, Beyond, Rests}
 
@@ -135,3 +135,36 @@ module _ (n : ℕ) (m x : Mem) (p : List Head) (c : ℕ) (mid new : List Head) (
             λ o y. each-append (Beyond o) p (new ++ q) (each-left (Beyond o) p (mid ++ q) (f .off o y))
             (each-append (Beyond o) new q (v o y) (each-right (Beyond o) mid q (each-right (Beyond o) p (mid ++ q) (f .off o y))));
       }
+
+-- a store of a state
+module _ (n : ℕ) (m : Mem) (p : List Head) (h : Head) (q : List Head) (s : ℕ) (f : Held n m (p ++ (h ∷ q))) where
+  state-parted : Parted n p (h .at) (h ∷ []) (endOf h) q
+  state-parted = parted-one n p h q (f .tiles)
+
+  state-elsewhere : Elsewhere (h .at) (endOf h) m (upd m (stateAt (h .at)) s)
+  state-elsewhere = let l = state-parted .part .0 .least in one-store m (h .at) (endOf h) (stateAt (h .at)) s (omega arith) (omega arith)
+
+  pub held-state : s ≤ FREEING → listBad n (upd m (stateAt (h .at)) s) (withState h s) ≡ false → Held n (upd m (stateAt (h .at)) s) (p ++ (withState h s ∷ q))
+  held-state l b =
+      let i = stateAt (h .at) in
+      let t = state-parted .part .0 in
+      let v = reads-right m p (h ∷ q) (f .reads) in
+      held-replaced n m (upd m i s) p (h .at) (h ∷ []) (withState h s ∷ []) (endOf h) q state-parted state-elsewhere f
+      (record {
+        tiles = (record { here = refl; least = t .least; whole = t .whole; known = l }, refl);
+        reads = (upd-other m i s (h .at) (omega arith) ∙ v .0, upd-same m i s, tt);
+        lists = (b, tt);
+      })
+
+  pub fates-state :
+      fates (upd m (stateAt (h .at)) s) (withState h s ∷ []) ≡ fates m (h ∷ [])
+      → fates (upd m (stateAt (h .at)) s) (p ++ (withState h s ∷ q)) ≡ fates m (p ++ (h ∷ q))
+  fates-state g = fates-replaced n m (upd m (stateAt (h .at)) s) p (h .at) (h ∷ []) (withState h s ∷ []) (endOf h) q state-parted state-elsewhere g
+
+  pub state-word : (o : ℕ) → Each (Beyond o) (p ++ (h ∷ q)) → upd m (stateAt (h .at)) s o ≡ m o
+  state-word o e =
+      upd-other m (stateAt (h .at)) s o (λ z. ⊎-elim (λ x. absurd (omega arith)) (λ x. absurd (omega arith)) (each-right (Beyond o) p (h ∷ q) e .0))
+
+-- one clump for another at the same place
+pub each-other : (P : Head → Type 0) (p : List Head) (h j : Head) (q : List Head) → (P h → P j) → Each P (p ++ (h ∷ q)) → Each P (p ++ (j ∷ q))
+each-other P p h j q f e = let r = each-right P p (h ∷ q) e in each-append P p (j ∷ q) (each-left P p (h ∷ q) e) (f (r .0), r .1)

@@ -27,7 +27,7 @@ use Rattle.laws.specs.Mending.{settle}
 use Rattle.loss.specs.Cuts.{Every, every-append, cuts-every}
 use Rattle.loss.specs.Held.{Held, Idle, Pends}
 use Rattle.loss.specs.Fates.{Kept, isKept, fates, fates-none, fates-one, fates-agree, Beyond, Rests, Leads, Led, resting, leading}
-use Rattle.loss.specs.Parts.{Elsewhere, state-slots, Parted, parted-one, Segment, reads-agree, lists-agree, held-replaced, fates-replaced, held-state, fates-state, state-word, each-other}
+use Rattle.loss.specs.Parts.{Elsewhere, front-slots, Parted, parted-one, Segment, reads-agree, lists-agree, held-replaced, fates-replaced, held-state, fates-state, state-word, each-other}
 use Rattle.loss.specs.Redo.{Spares, after-spared, after-at, redo-start, redo-end}
 use Rattle.loss.specs.Emptied.{emptied, empty-good}
 use Rattle.loss.specs.Targets.{valid-entries, entries-valid, assigned-headers, assigned-page}
@@ -233,7 +233,7 @@ module _ (n : ℕ) (D : ℕ → Type 0) (k : List Kept) (w m : Mem) (p : List He
       let y = after (after m (entries m (h .at))) (emptying (usedSlots m (h .at))) in
       let x = upd y (stateAt (h .at)) ACTIVE in
       let g = emptied-leads z in
-      let c : entries x (h .at) ≡ [] = entries-same y x (slots (h .at)) (state-slots y (h .at) ACTIVE) ∙ emptied-all in
+      let c : entries x (h .at) ≡ [] = entries-same y x (slots (h .at)) (front-slots y (h .at) (stateAt (h .at)) ACTIVE (omega arith)) ∙ emptied-all in
       let i : isKept h ≡ true = rw z in
       to-rest n D k w y p h q ACTIVE g (omega arith) refl (empty-good n x (withState h ACTIVE) c)
       (fates-one x (withState h ACTIVE) refl

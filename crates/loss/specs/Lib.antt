@@ -16,3 +16,4 @@ pub mod Gaps
 pub mod Slices
 pub mod Readings
 pub mod Recovering
+pub mod Reserving

@@ -27,13 +27,12 @@ Elsewhere c d m x = (o : ℕ) → (o < c) ⊎ (d ≤ o) → x o ≡ m o
 pub one-store : (m : Mem) (c d i w : ℕ) → c ≤ i → i < d → Elsewhere c d m (upd m i w)
 one-store m c d i w l u o e = upd-other m i w o (λ z. ⊎-elim (λ x. absurd (omega arith)) (λ x. absurd (omega arith)) e)
 
--- a store of a state leaves the list
-pub state-slots : (m : Mem) (a s : ℕ) → SameSlots m (upd m (stateAt a) s) (slots a)
-state-slots m a s =
-    let i = stateAt a in (
-      (upd-other m i s _ (omega arith), upd-other m i s _ (omega arith)),
-      ((upd-other m i s _ (omega arith), upd-other m i s _ (omega arith)), ((upd-other m i s _ (omega arith), upd-other m i s _ (omega arith)), tt)),
-    )
+-- a store to the size or to the state leaves the list
+pub front-slots : (m : Mem) (a i s : ℕ) → i < a + 16 → SameSlots m (upd m i s) (slots a)
+front-slots m a i s l = (
+  (upd-other m i s _ (omega arith), upd-other m i s _ (omega arith)),
+  ((upd-other m i s _ (omega arith), upd-other m i s _ (omega arith)), ((upd-other m i s _ (omega arith), upd-other m i s _ (omega arith)), tt)),
+)
 
 agree-below : (a c d : ℕ) (m x : Mem) (p : List Head) → Tiles a p c → Elsewhere c d m x → Agree m x p
 agree-below a c d m x [] t e = tt

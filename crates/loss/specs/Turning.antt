@@ -4,7 +4,7 @@ use Prim.Native.Nat.{ℕ, _+_, _≤_}
 use mathlib.Core.Path.{_≡_, refl, sym, ap, subst, _∙_}
 use mathlib.Core.Bool.{Bool, true, false, not, _&&_, _||_}
 use mathlib.Core.List.{List, [], _∷_, _++_}
-use lib.Dec.{eqb}
+use native.Mathlib.Omega.{arith}
 use Rattle.rules.specs.Lists.{any, Each}
 use Rattle.rules.specs.Words.{Mem, Store, upd, after}
 use Rattle.rules.specs.Pages.{staticAt, staticEnd}
@@ -15,7 +15,7 @@ use Rattle.laws.specs.Headers.{entries-same}
 use Rattle.laws.specs.Stored.{withState}
 use Rattle.loss.specs.Held.{Held, Idle, Pends}
 use Rattle.loss.specs.Fates.{Kept, isKept, fates, fates-none, Beyond, Rests, Leads}
-use Rattle.loss.specs.Parts.{state-slots, held-state, fates-state, state-word, each-other}
+use Rattle.loss.specs.Parts.{front-slots, held-state, fates-state, state-word, each-other}
 use Rattle.loss.specs.Finishing.{busy-good}
 use Rattle.loss.specs.Targets.{valid-entries, entries-valid}
 
@@ -62,7 +62,7 @@ module _ (n : ℕ) (D : ℕ → Type 0) (k : List Kept) (w m : Mem) (p : List He
       Leads n D (fates x (p ++ (withState h s ∷ q))) (after x (entries x (h .at))) x p (withState h s) q
   begins l i e v =
       let x = upd m (stateAt (h .at)) s in
-      let c = entries-same m x (slots (h .at)) (state-slots m (h .at) s) in
+      let c = entries-same m x (slots (h .at)) (front-slots m (h .at) (stateAt (h .at)) s (omega arith)) in
       let valid : (hs : List Head) → Store → Type 0 = (λ hs z. isValid hs (z .to) ≡ true) in
       record {
         pends =

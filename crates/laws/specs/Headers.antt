@@ -97,20 +97,18 @@ module _ (m x : Mem) (sl : List ℕ) (g : SameSlots m x sl) where
   used-test p =
       each-map (λ s. (x s ≡ m s) × (x (valueAt s) ≡ m (valueAt s))) (λ s. p (x s) ≡ p (m s)) (those (isUsed m) sl) (λ s e. ap p (e .0)) used-words
 
-gapped-same : (m x : Mem) (sl : List ℕ) → SameSlots m x sl → gapped x sl ≡ gapped m sl
+pub gapped-same : (m x : Mem) (sl : List ℕ) → Each (λ s. x s ≡ m s) sl → gapped x sl ≡ gapped m sl
 unfolding gapped
 gapped-same m x [] e = refl
 gapped-same m x (s ∷ sl) e =
-    let u =
-    any-same (isUsed x) (isUsed m) sl
-    (each-map (λ r. (x r ≡ m r) × (x (valueAt r) ≡ m (valueAt r))) (λ r. isUsed x r ≡ isUsed m r) sl (λ r f. ap (λ (w : ℕ). not (eqb w 0)) (f .0)) (e .1)) in
-    ap₂ _||_ (ap₂ _&&_ (ap (λ (w : ℕ). eqb w 0) (e .0 .0)) u) (gapped-same m x sl (e .1))
+    let u = any-same (isUsed x) (isUsed m) sl (each-map (λ r. x r ≡ m r) (λ r. isUsed x r ≡ isUsed m r) sl (λ r f. ap (λ (w : ℕ). not (eqb w 0)) f) (e .1)) in
+    ap₂ _||_ (ap₂ _&&_ (ap (λ (w : ℕ). eqb w 0) (e .0)) u) (gapped-same m x sl (e .1))
 
 module _ (n : ℕ) (m x : Mem) (hs : List Head) where
   pub list-same : (h : Head) → SameSlots m x (slots (h .at)) → listBad n x h ≡ listBad n m h
   unfolding listBad
   list-same h g =
-      ap₂ (λ (b c : Bool). isWaiting h && (b || c)) (gapped-same m x (slots (h .at)) g)
+      ap₂ (λ (b c : Bool). isWaiting h && (b || c)) (gapped-same m x (slots (h .at)) (each-map (λ s. (x s ≡ m s) × (x (valueAt s) ≡ m (valueAt s))) (λ s. x s ≡ m s) (slots (h .at)) (λ s e. e .0) g))
       (ap (any (λ s. not (inPlace n (targetAt x s)))) (used-same m x (slots (h .at)) g)
       ∙ any-same (λ s. not (inPlace n (targetAt x s))) (λ s. not (inPlace n (targetAt m s))) (usedSlots m (h .at))
       (used-test m x (slots (h .at)) g (λ w. not (inPlace n w))))

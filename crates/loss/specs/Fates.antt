@@ -51,6 +51,14 @@ pub fates-one : (m : Mem) (h : Head) → isKept h ≡ true → fates m (h ∷ []
 unfolding fates those
 fates-one m h e = rw e
 
+-- the list tells what is kept of a clump
+pub fates-list : (m x : Mem) (h : Head) → entries x (h .at) ≡ entries m (h .at) → fates x (h ∷ []) ≡ fates m (h ∷ [])
+fates-list m x h e = go (isKept h) refl
+  where
+    go : (b : Bool) → isKept h ≡ b → fates x (h ∷ []) ≡ fates m (h ∷ [])
+    go true q = fates-one x h q ∙ ap (λ (st : List Store). record { clump = withState h ACTIVE; list = cond (hasState ACTIVE h) st [] } ∷ []) e ∙ sym (fates-one m h q)
+    go false q = fates-none x (h ∷ []) (q, tt) ∙ sym (fates-none m (h ∷ []) (q, tt))
+
 -- the headers tell what is kept
 pub fates-agree : (m x : Mem) (hs : List Head) → Agree m x hs → fates x hs ≡ fates m hs
 unfolding fates

@@ -17,3 +17,6 @@ pub mod Slices
 pub mod Readings
 pub mod Recovering
 pub mod Reserving
+pub mod Freeing
+pub mod Entries
+pub mod Listing

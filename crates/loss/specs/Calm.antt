@@ -32,6 +32,11 @@ touching-parts p q e =
     let s = or-neither (endsFree p && startsFree q) (touching q) (r .1) in
     (r .0, s .1, s .0)
 
+-- the clumps below one and above it
+pub touching-sides : (p : List Head) (h : Head) (q : List Head) → touching (p ++ (h ∷ q)) ≡ false → (touching p ≡ false) × (touching q ≡ false)
+unfolding touching
+touching-sides p h q t = let r = touching-parts p (h ∷ q) t in (r .0, or-neither (isFree h && startsFree q) (touching q) (r .1) .1)
+
 pub touching-join : (p q : List Head) → touching p ≡ false → touching q ≡ false → (endsFree p && startsFree q) ≡ false → touching (p ++ q) ≡ false
 touching-join p q e f g = rw (touching-append p q, e, g, f)
 

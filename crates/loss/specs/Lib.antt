@@ -20,3 +20,7 @@ pub mod Reserving
 pub mod Freeing
 pub mod Entries
 pub mod Listing
+pub mod Owning
+pub mod Courses
+pub mod Turns
+pub mod Requested

@@ -6,7 +6,7 @@ use mathlib.Core.Bool.{Bool, true, false, not, _&&_, _||_}
 use mathlib.Core.List.{List, [], _∷_, _++_}
 use native.Mathlib.Omega.{arith}
 use Rattle.rules.specs.Lists.{any, Each}
-use Rattle.rules.specs.Words.{Mem, Store, upd, after}
+use Rattle.rules.specs.Words.{Mem, Store, upd}
 use Rattle.rules.specs.Pages.{staticAt, staticEnd}
 use Rattle.rules.specs.Clumps.{Head, bodyOf, endOf, stateAt, isFree, isLive, isPending, slots, entries, FREEING}
 use Rattle.rules.specs.Sound.{isEven, lies, isValid, allValid, listBad}
@@ -14,7 +14,7 @@ use Rattle.laws.specs.Searches.{each-left, each-right, each-map}
 use Rattle.laws.specs.Headers.{entries-same}
 use Rattle.laws.specs.Stored.{withState}
 use Rattle.loss.specs.Held.{Held, Idle, Pends}
-use Rattle.loss.specs.Fates.{Kept, isKept, fates, fates-none, Beyond, Rests, Leads}
+use Rattle.loss.specs.Fates.{Kept, isKept, fates-none, Beyond, Rests}
 use Rattle.loss.specs.Parts.{front-slots, held-state, fates-state, state-word, each-other}
 use Rattle.loss.specs.Finishing.{busy-good}
 use Rattle.loss.specs.Targets.{valid-entries, entries-valid}
@@ -42,6 +42,7 @@ module _ (n : ℕ) (D : ℕ → Type 0) (k : List Kept) (w m : Mem) (p : List He
         off = λ o d. each-other (Beyond o) p h (withState h s) q (λ c. c) (f .off o d);
       }
 
+module _ (n : ℕ) (m : Mem) (p : List Head) (h : Head) (q : List Head) (s : ℕ) where
   -- a clump that stays live, or stays FREE, holds the targets that it held
   any-live : (t : ℕ) (r : List Head) → isFree (withState h s) ≡ isFree h → any (holdsWord t) (r ++ (withState h s ∷ q)) ≡ any (holdsWord t) (r ++ (h ∷ q))
   unfolding any
@@ -54,29 +55,24 @@ module _ (n : ℕ) (D : ℕ → Type 0) (k : List Kept) (w m : Mem) (p : List He
 
   -- the list begins to be carried out
   pub begins :
-      s ≤ FREEING
+      Held n m (p ++ (h ∷ q))
+      → Each Idle (p ++ (h ∷ q))
+      → s ≤ FREEING
       → isPending (withState h s) ≡ true
       → isFree (withState h s) ≡ isFree h
       → allValid m (p ++ (h ∷ q)) h ≡ true
-      → let x = upd m (stateAt (h .at)) s in
-      Leads n D (fates x (p ++ (withState h s ∷ q))) (after x (entries x (h .at))) x p (withState h s) q
-  begins l i e v =
+      → Pends n (upd m (stateAt (h .at)) s) p (withState h s) q
+  begins f r l i e v =
       let x = upd m (stateAt (h .at)) s in
       let c = entries-same m x (slots (h .at)) (front-slots m (h .at) (stateAt (h .at)) s (omega arith)) in
       let valid : (hs : List Head) → Store → Type 0 = (λ hs z. isValid hs (z .to) ≡ true) in
       record {
-        pends =
-            record {
-              held = held-state n m p h q s (f .held) l (busy-good n x (withState h s) i);
-              below = each-left Idle p (h ∷ q) (f .idle);
-              pending = i;
-              above = each-right Idle p (h ∷ q) (f .idle) .1;
-              valid =
-                  entries-valid x (p ++ (withState h s ∷ q)) (withState h s)
-                  (subst (Each (valid (p ++ (withState h s ∷ q)))) (sym c)
-                  (each-map (valid (p ++ (h ∷ q))) (valid (p ++ (withState h s ∷ q))) (entries m (h .at)) (λ z y. valid-live (z .to) e ∙ y) (valid-entries m (p ++ (h ∷ q)) h v)));
-            };
-        kept = refl;
-        words = λ o d. refl;
-        off = λ o d. each-other (Beyond o) p h (withState h s) q (λ y. y) (f .off o d);
+        held = held-state n m p h q s f l (busy-good n x (withState h s) i);
+        below = each-left Idle p (h ∷ q) r;
+        pending = i;
+        above = each-right Idle p (h ∷ q) r .1;
+        valid =
+            entries-valid x (p ++ (withState h s ∷ q)) (withState h s)
+            (subst (Each (valid (p ++ (withState h s ∷ q)))) (sym c)
+            (each-map (valid (p ++ (h ∷ q))) (valid (p ++ (withState h s ∷ q))) (entries m (h .at)) (λ z y. valid-live (z .to) e ∙ y) (valid-entries m (p ++ (h ∷ q)) h v)));
       }

@@ -1,0 +1,164 @@
+-- Every request on a settled pool takes its course, whatever its numbers: a refusal stores nothing, and what each test leaves is what the
+-- laws of its stores want. By cases on the requests. Assumes nothing.
+use Prim.Native.Nat.{ℕ, zero, suc, _+_, _%_, _<_, _≤_}
+use mathlib.Core.Path.{_≡_, refl, sym, ap, subst, _∙_}
+use mathlib.Core.Bool.{Bool, true, false, not, _||_, or-true}
+use mathlib.Core.Logic.{⊎-elim}
+use mathlib.Core.Option.{Option, some, none}
+use mathlib.Core.List.{List, [], _∷_, _++_}
+use native.Mathlib.Omega.{arith}
+use lib.Dec.{eqb, leb}
+use lib.ListN.{length, take}
+use borrow.Author.Tests.{leb-true, eqb-true, eqb-false, not-false}
+use Rattle.rules.specs.declared.Request.{Request}
+use Rattle.rules.specs.declared.Request.the-variants.{Create, Reserve, Onactive, Onfree, Withdraw, Activate, Free, Check, Recover}
+use Rattle.rules.specs.Lists.{seek, Each}
+use Rattle.rules.specs.Words.{Mem, Store, upd, after}
+use Rattle.rules.specs.Pages.{unit}
+use Rattle.rules.specs.Clumps.{Head, hasState, isFree, isWaiting, isEmpty, slots, usedSlots, valueAt, endOf, leastClump, RESERVED, ACTIVE, walk}
+use Rattle.rules.specs.Sound.{isValid, allValid, touching, unsettled}
+use Rattle.rules.specs.Answers.{storesOf, sizeZero, wrongState, badTarget}
+use Rattle.rules.specs.Stores.{needOf, fits, reserveStores, listStores, withdrawStores, lastOf, activateStores, freeStores, recoverStores}
+use Rattle.rules.specs.Requests.{placed, reserve, finder, listed, enlist, withdrawn, withdraw, activate, mayDrop, free, verdict}
+use Rattle.rules.specs.Traces.{isCreate, isCarriedThrough}
+use Rattle.laws.specs.Searches.{differ, and-both, each-right, seek-split}
+use Rattle.laws.specs.Behind.{behind-test, behind-sound, behind-settled, behind-found}
+use Rattle.laws.specs.Landing.{need-even}
+use Rattle.laws.specs.Named.{Off}
+use Rattle.laws.specs.Pools.{Sound}
+use Rattle.loss.specs.Held.{Held, Idle, held-walk, idle-sound, sound-held}
+use Rattle.loss.specs.Fates.{fates, Owned, resting}
+use Rattle.loss.specs.Reserving.{reserves}
+use Rattle.loss.specs.Listing.{value-rests, target-held, withdrawn-held}
+use Rattle.loss.specs.Owning.{owned-off, owned-beyond, rests-as, SameFate, own-fate}
+use Rattle.loss.specs.Recovering.{recovers}
+use Rattle.loss.specs.Courses.{Course, held-calm, calm-idle, course-none, course-comes, course-two, course-one}
+use Rattle.loss.specs.Turns.{activate-course, free-course}
+
+-- a clump of a settled pool, with the clumps below and above it
+pub record Amid (n : ℕ) (m : Mem) (h : Head) : Type 0 where
+  pub below : List Head
+  pub above : List Head
+  pub whole : walk n m ≡ below ++ (h ∷ above)
+  pub held : Held n m (below ++ (h ∷ above))
+  pub idle : Each Idle (below ++ (h ∷ above))
+  pub apart : touching (below ++ (h ∷ above)) ≡ false
+
+pub amid : (n : ℕ) (m : Mem) (t : Head → Bool) (h : Head) → Sound n m → unsettled (walk n m) ≡ false → seek t (walk n m) ≡ some h → Amid n m h
+amid n m t h s u e =
+    let x = seek-split t (walk n m) h e in
+    let i = x .whole in
+    let c = calm-idle (walk n m) u in
+    record {
+      below = x .lower;
+      above = x .higher;
+      whole = i;
+      held = subst (λ (hs : List Head). Held n m hs) i (sound-held n m s);
+      idle = subst (Each Idle) i (c .0);
+      apart = subst (λ (hs : List Head). touching hs ≡ false) i (c .1);
+    }
+
+-- need is a clump's size at the least
+need-least : (size : ℕ) → (size ≡ 0 → ⊥) → leastClump ≤ needOf size
+unfolding needOf
+need-least size z = omega arith
+
+module _ (n : ℕ) (m : Mem) (s : Sound n m) (u : unsettled (walk n m) ≡ false) where
+  none-made : (b : Bool) → Course n m b []
+  none-made b = course-none n m b s u
+
+  placed-course : (size : ℕ) → (size ≡ 0 → ⊥) → (o : Option Head) → seek (fits (needOf size)) (walk n m) ≡ o → Course n m false (storesOf (placed (needOf size) o))
+  placed-course size z none e = none-made false
+  placed-course size z (some h) e =
+      let a = amid n m (fits (needOf size)) h s u e in
+      let p = a .below in
+      let q = a .above in
+      let f = and-both (isFree h) _ (seek-split (fits (needOf size)) (walk n m) h e .passes) in
+      let k = fates m (p ++ (h ∷ q)) in
+      let t = a .held .tiles in
+      let r = reserves n (Owned k) k m p h q (f .0) (λ o d. each-right (Off o) p (h ∷ q) (owned-off n m (p ++ (h ∷ q)) o t d) .0 .whole (f .0)) in
+      let x =
+      r m (needOf size) (need-even size) (need-least size z) (leb-true (needOf size) (h .nbytes) (f .1))
+      (rests-as n (Owned k) m (p ++ (h ∷ q)) (a .held) (a .idle) (owned-beyond n m (p ++ (h ∷ q)) t)) in
+      course-comes n k m m false (reserveStores (needOf size) h) (p ++ (x .clump ∷ x .above)) (x .comes) (x .calm (a .apart))
+
+  -- the list of a clump
+  listed-course : (h : Head) (o t v : ℕ) → Amid n m h → isWaiting h ≡ true → (e : Option ℕ) → seek (isEmpty m) (slots (h .at)) ≡ e → Course n m false (storesOf (listed (isValid (walk n m) t) e o t v))
+  listed-course h o t v a w none e = none-made false
+  listed-course h o t v a w (some i) e =
+      behind-test (Course n m false) (none-made false) (not (isValid (walk n m) t)) badTarget _
+      (λ z. go (subst (λ (hs : List Head). isValid hs t ≡ true) (a .whole) (not-false _ z)))
+    where
+      go : isValid (a .below ++ (h ∷ a .above)) t ≡ true → Course n m false (listStores i t v)
+      go z =
+          let p = a .below in
+          let q = a .above in
+          let hs = p ++ (h ∷ q) in
+          let k = fates m hs in
+          let f = rests-as n (Owned k) m hs (a .held) (a .idle) (owned-beyond n m hs (a .held .tiles)) in
+          let g = value-rests n m p h q i v w e (Owned k) k m f in
+          course-two n k m m _ _ hs f g (target-held n m p h q i v w e t z (a .held) (g .held)) (a .apart)
+
+  enlist-course : (allowed o t v : ℕ) (h : Head) → Amid n m h → (hasState allowed h ≡ true → isWaiting h ≡ true) → Course n m false (storesOf (enlist m (walk n m) allowed o t v h))
+  unfolding enlist
+  enlist-course allowed o t v h a w =
+      behind-test (Course n m false) (none-made false) (not (hasState allowed h)) wrongState _
+      (λ z. listed-course h o t v a (w (not-false _ z)) (seek (isEmpty m) (slots (h .at))) refl)
+
+  withdrawn-course : (o : ℕ) (h : Head) → Amid n m h → isWaiting h ≡ true → (us : List ℕ) → usedSlots m (h .at) ≡ us → Course n m false (storesOf (withdrawn us o))
+  withdrawn-course o h a w [] e = none-made false
+  withdrawn-course o h a w (i ∷ us) e =
+      let hs = a .below ++ (h ∷ a .above) in
+      course-one n m false _ hs (a .held) (a .idle) (withdrawn-held n m (a .below) h (a .above) i us w e (a .held)) (a .apart)
+
+  withdraw-course : (o : ℕ) (h : Head) → Amid n m h → Course n m false (storesOf (withdraw m o h))
+  unfolding withdraw
+  withdraw-course o h a =
+      behind-test (Course n m false) (none-made false) (not (isWaiting h)) wrongState _ (λ z. withdrawn-course o h a (not-false _ z) (usedSlots m (h .at)) refl)
+
+  -- activate and free
+  activated-course : (o : ℕ) (h : Head) → Amid n m h → Course n m true (storesOf (activate m (walk n m) o h))
+  unfolding activate
+  activated-course o h a =
+      behind-test (Course n m true) (none-made true) (not (hasState RESERVED h)) wrongState _
+      (λ z. behind-test (Course n m true) (none-made true) (not (allValid m (walk n m) h)) badTarget _
+      (λ v. activate-course n m (a .below) h (a .above) (a .held) (a .idle) (not-false _ z) (subst (λ (hs : List Head). allValid m hs h ≡ true) (a .whole) (not-false _ v)) (a .apart)))
+
+  freed-course : (o : ℕ) (h : Head) → Amid n m h → Course n m true (storesOf (free m (walk n m) o h))
+  unfolding free
+  freed-course o h a =
+      behind-test (Course n m true) (none-made true) (not (isWaiting h)) wrongState _
+      (λ z. behind-test (Course n m true) (none-made true) (not (mayDrop m (walk n m) h)) badTarget _
+      (λ v. subst (λ (hs : List Head). Course n m true (freeStores m hs h)) (sym (a .whole))
+      (free-course n m (a .below) h (a .above) (a .held) (a .idle) (not-false _ z) (subst (λ (hs : List Head). mayDrop m hs h ≡ true) (a .whole) (not-false _ v)) (a .apart))))
+
+-- recovery, of any sound pool
+pub recover-course : (n : ℕ) (m : Mem) → Sound n m → Course n m false (recoverStores m (walk n m))
+recover-course n m s =
+    let f = own-fate n m s in
+    let r = recovers n (Owned (f .kept)) (f .kept) (f .words) m (f .one) in
+    course-comes n (f .kept) (f .words) m false (recoverStores m (walk n m)) (r .clumps) (r .comes) (r .calm .apart)
+
+pub courses : (n : ℕ) (m : Mem) (q : Request) → Sound n m → unsettled (walk n m) ≡ false → isCreate q ≡ false → Course n m (isCarriedThrough q) (storesOf (verdict n m q))
+unfolding verdict reserve
+courses n m Create s u c = differ refl c
+courses n m (Reserve size) s u c =
+    behind-settled (Course n m false) (course-none n m false s u) n m _
+    (λ y z. behind-test (Course n m false) (course-none n m false s u) (eqb size 0) sizeZero _ (λ e. placed-course n m s u size (eqb-false size 0 e) (seek (fits (needOf size)) (walk n m)) refl))
+courses n m (Onactive o t v) s u c =
+    behind-settled (Course n m false) (course-none n m false s u) n m _
+    (λ y z. behind-found (Course n m false) (course-none n m false s u) (finder (walk n m) o) _ (λ h e. enlist-course n m s u RESERVED o t v h (amid n m _ h s u e) (λ w. rw w)))
+courses n m (Onfree o t v) s u c =
+    behind-settled (Course n m false) (course-none n m false s u) n m _
+    (λ y z. behind-found (Course n m false) (course-none n m false s u) (finder (walk n m) o) _ (λ h e. enlist-course n m s u ACTIVE o t v h (amid n m _ h s u e) (λ w. rw w (or-true (hasState RESERVED h)))))
+courses n m (Withdraw o) s u c =
+    behind-settled (Course n m false) (course-none n m false s u) n m _
+    (λ y z. behind-found (Course n m false) (course-none n m false s u) (finder (walk n m) o) _ (λ h e. withdraw-course n m s u o h (amid n m _ h s u e)))
+courses n m (Activate o) s u c =
+    behind-settled (Course n m true) (course-none n m true s u) n m _
+    (λ y z. behind-found (Course n m true) (course-none n m true s u) (finder (walk n m) o) _ (λ h e. activated-course n m s u o h (amid n m _ h s u e)))
+courses n m (Free o) s u c =
+    behind-settled (Course n m true) (course-none n m true s u) n m _
+    (λ y z. behind-found (Course n m true) (course-none n m true s u) (finder (walk n m) o) _ (λ h e. freed-course n m s u o h (amid n m _ h s u e)))
+courses n m Check s u c = behind-sound (Course n m false) (course-none n m false s u) n m _ (λ y. course-none n m false s u)
+courses n m Recover s u c = behind-sound (Course n m false) (course-none n m false s u) n m _ (λ y. recover-course n m y)

@@ -30,7 +30,7 @@ bare-cons j h hs e b = rw (e, b)
 below-within : (a b j : ℕ) → j < a → within a b j ≡ false
 below-within a b j l = rw (lt-leb a j l)
 
-above-within : (a b j : ℕ) → b ≤ j → within a b j ≡ false
+pub above-within : (a b j : ℕ) → b ≤ j → within a b j ≡ false
 above-within a b j l = rw (le-ltb j b l) (and-no (leb a j))
   where
     and-no : (t : Bool) → (t && false) ≡ false
@@ -89,12 +89,12 @@ unfolding hidden
 seen hs j l b = rw (le-ltb j headerAt l, b)
 
 module _ (img x : Image) (a : Alike img x) where
-  agree-page : AgreePage (mem img) (mem x)
+  pub agree-page : AgreePage (mem img) (mem x)
   unfolding walk
   agree-page o l u =
       mem-same x img o (λ j p q. a .same j (seen (clumpsOf img) j (omega arith) (bare-below (length img) (length img) clumpsAt (mem img) j (omega arith))))
 
-  agree-headers : Agree (mem img) (mem x) (clumpsOf img)
+  pub agree-headers : Agree (mem img) (mem x) (clumpsOf img)
   unfolding walk
   agree-headers =
       each-map (λ h. BareHeader (clumpsOf img) h × (clumpsAt ≤ h .at)) (λ h. AgreeAt (mem img) (mem x) (h .at)) (clumpsOf img)

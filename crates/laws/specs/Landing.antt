@@ -321,7 +321,7 @@ high-small : signatureHigh < wordValues
 unfolding signatureHigh le signature
 high-small = omega arith
 
-create-land : (n : ℕ) → RightLength n → Land n (createStores n)
+pub create-land : (n : ℕ) → RightLength n → Land n (createStores n)
 unfolding createStores
 create-land n r =
     let l = r .least in

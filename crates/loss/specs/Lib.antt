@@ -24,3 +24,7 @@ pub mod Owning
 pub mod Courses
 pub mod Turns
 pub mod Requested
+pub mod Images
+pub mod Blanked
+pub mod Creating
+pub mod Histories

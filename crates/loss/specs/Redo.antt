@@ -3,7 +3,6 @@
 use Prim.Native.Nat.{ℕ}
 use mathlib.Core.Path.{_≡_, refl, sym, ap, _∙_}
 use mathlib.Core.Bool.{Bool, true, false, cond}
-use mathlib.Core.Logic.{_⊎_, inl, inr}
 use mathlib.Core.List.{List, [], _∷_, _++_}
 use lib.ListN.{take, drop, take-append-drop}
 use lib.Dec.{eqb}
@@ -12,11 +11,13 @@ use Rattle.rules.specs.Lists.{Each}
 use Rattle.rules.specs.Words.{Mem, Store, upd, after}
 use Rattle.word.specs.Memory.{upd-same, upd-other, after-append}
 use Rattle.laws.specs.Named.{each-take}
-use Rattle.loss.specs.Parts.{Elsewhere}
 
--- no store of the list goes to o
+-- a store to another word than the one at o; and a list of such stores
+abbrev pub Other : ℕ → Store → Type 0
+Other o s = o ≡ s .to → ⊥
+
 abbrev pub Spares : ℕ → List Store → Type 0
-Spares o st = Each (λ s. o ≡ s .to → ⊥) st
+Spares o st = Each (Other o) st
 
 pub after-spared : (m : Mem) (st : List Store) (o : ℕ) → Spares o st → after m st o ≡ m o
 unfolding after
@@ -42,7 +43,7 @@ redo m x (s ∷ st) f o = redo (upd m (s .to) (s .word)) (upd x (s .to) (s .word
 
 -- a beginning, then all
 pub redo-start : (m : Mem) (st : List Store) (j o : ℕ) → after (after m (take j st)) st o ≡ after m st o
-redo-start m st j o = redo m (after m (take j st)) st (λ i g. after-spared m (take j st) i (each-take (λ s. i ≡ s .to → ⊥) j st g)) o
+redo-start m st j o = redo m (after m (take j st)) st (λ i g. after-spared m (take j st) i (each-take (Other i) j st g)) o
 
 -- all, then an end
 pub redo-end : (m : Mem) (st : List Store) (j o : ℕ) → after (after m st) (drop j st) o ≡ after m st o

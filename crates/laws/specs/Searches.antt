@@ -112,6 +112,10 @@ module _ {A : Type 0} where
   each-drop P (suc k) [] f = tt
   each-drop P (suc k) (x ∷ xs) f = each-drop P k xs (f .1)
 
+  pub each-both : (P Q : A → Type 0) (xs : List A) → Each P xs → Each Q xs → Each (λ x. P x × Q x) xs
+  each-both P Q [] f g = tt
+  each-both P Q (x ∷ xs) f g = ((f .0, g .0), each-both P Q xs (f .1) (g .1))
+
   pub each-map : (P Q : A → Type 0) (xs : List A) → ((x : A) → P x → Q x) → Each P xs → Each Q xs
   each-map P Q [] h f = tt
   each-map P Q (x ∷ xs) h f = (h x (f .0), each-map P Q xs h (f .1))

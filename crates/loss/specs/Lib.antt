@@ -28,3 +28,5 @@ pub mod Images
 pub mod Blanked
 pub mod Creating
 pub mod Histories
+pub mod Again
+pub mod Linked

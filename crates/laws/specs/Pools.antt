@@ -1,5 +1,5 @@
 -- What a granted request tells of the image: each test before it failed. By cases on the tests. Assumes nothing.
-use Prim.Native.Nat.{ℕ, _%_, _≤_}
+use Prim.Native.Nat.{ℕ, _%_, _<_, _≤_}
 use mathlib.Core.Path.{_≡_, refl}
 use mathlib.Core.Bool.{Bool, true, false, not}
 use mathlib.Core.Option.{Option, some, none}
@@ -10,7 +10,7 @@ use Rattle.rules.specs.Words.{Mem, Store}
 use Rattle.rules.specs.Pages.{leastLength, mostLength, unit, rightLength, isPool}
 use Rattle.rules.specs.Clumps.{walk}
 use Rattle.rules.specs.Sound.{Fault, judge, unsettled}
-use Rattle.rules.specs.Answers.{done, notPool, answerOf, Verdict, refused, granted, test, testFault, ifSound, ifSettled}
+use Rattle.rules.specs.Answers.{done, notPool, notSettled, answerOf, Verdict, refused, granted, test, testFault, ifSound, ifSettled}
 use Rattle.laws.specs.Searches.{and-both}
 
 -- a refusal is no grant
@@ -68,18 +68,31 @@ settled-granted n m p v st e =
     let b = test-granted (unsettled (walk n m)) 3 p v st (a .1) in
     (a .0, b .0, b .1)
 
+-- answer 0 tells as much, also under a fuse
+pub done-test : (b : Bool) (a fuse : ℕ) (v : Verdict) → 0 < a → answerOf fuse (test b a v) .answer ≡ done → (b ≡ false) × (answerOf fuse v .answer ≡ done)
+unfolding answerOf
+done-test true a fuse v l e = absurd (omega arith)
+done-test false a fuse v l e = (refl, e)
+
+done-fault : (o : Option Fault) (fuse : ℕ) (v : Verdict) → answerOf fuse (testFault o v) .answer ≡ done → (o ≡ none) × (answerOf fuse v .answer ≡ done)
+unfolding answerOf
+done-fault none fuse v e = (refl, e)
+done-fault (some f) fuse v e = absurd (omega arith)
+
+pub done-sound : (n : ℕ) (m : Mem) (fuse : ℕ) (v : Verdict) → answerOf fuse (ifSound n m v) .answer ≡ done → Sound n m × (answerOf fuse v .answer ≡ done)
+unfolding ifSound
+done-sound n m fuse v e =
+    let a = done-test (not (isPool n m)) notPool fuse _ (omega arith) e in
+    let b = done-fault (judge n m) fuse v (a .1) in
+    (record { pool = not-false _ (a .0); sound = b .0 }, b .1)
+
+pub done-settled : (n : ℕ) (m : Mem) (fuse : ℕ) (v : Verdict) → answerOf fuse (ifSettled n m v) .answer ≡ done → Sound n m × (unsettled (walk n m) ≡ false) × (answerOf fuse v .answer ≡ done)
+unfolding ifSettled
+done-settled n m fuse v e =
+    let a = done-sound n m fuse _ e in
+    let b = done-test (unsettled (walk n m)) notSettled fuse v (omega arith) (a .1) in
+    (a .0, b .0, b .1)
+
 -- an accepted check has a sound pool
 pub check-sound : (n : ℕ) (m : Mem) (fuse : ℕ) → answerOf fuse (ifSound n m (granted 0 [])) .answer ≡ done → Sound n m
-unfolding answerOf ifSound
-check-sound n m fuse e = go (isPool n m) refl (judge n m) refl e
-  where
-    go :
-        (t : Bool)
-        → isPool n m ≡ t
-        → (o : Option Fault)
-        → judge n m ≡ o
-        → answerOf fuse (test (not t) notPool (testFault o (granted 0 []))) .answer ≡ done
-        → Sound n m
-    go true p none q f = record { pool = p; sound = q }
-    go true p (some x) q f = absurd (omega arith)
-    go false p o q f = absurd (omega arith)
+check-sound n m fuse e = done-sound n m fuse (granted 0 []) e .0

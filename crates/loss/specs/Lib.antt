@@ -30,3 +30,4 @@ pub mod Creating
 pub mod Histories
 pub mod Again
 pub mod Linked
+pub mod Fresh

@@ -26,7 +26,7 @@ use Rattle.rules.specs.PowerLoss.{Distinct, AllOrNone}
 use Rattle.word.specs.Memory.{upd-same, length-carry, bytes-carry}
 use Rattle.laws.specs.Searches.{each-map, each-both, seek-split}
 use Rattle.laws.specs.Landing.{found-lies}
-use Rattle.laws.specs.Pools.{Sound}
+use Rattle.laws.specs.Pools.{Sound, done-test}
 use Rattle.laws.specs.Headers.{entries-same}
 use Rattle.laws.specs.Stored.{withState}
 use Rattle.laws.specs.Named.{Off, off}
@@ -47,12 +47,6 @@ unfolding after
 distinct-after m [] d = tt
 distinct-after m (s ∷ st) d =
     (after-spared (upd m (s .to) (s .word)) st (s .to) (d .0) ∙ upd-same m (s .to) (s .word), distinct-after (upd m (s .to) (s .word)) st (d .1))
-
--- a request that is accepted has passed its tests
-test-done : (b : Bool) (a fuse : ℕ) (v : Verdict) → 0 < a → answerOf fuse (test b a v) .answer ≡ done → (b ≡ false) × (answerOf fuse v .answer ≡ done)
-unfolding answerOf
-test-done true a fuse v l e = absurd (omega arith)
-test-done false a fuse v l e = (refl, e)
 
 -- the words that lie beyond every header, under a recovery
 module _ (n : ℕ) (hs : List Head) (k : List Kept) (w : Mem) (img x : Image) (f : Leading n (λ o. Each (Beyond o) hs) k w img) (r : Recovering img x) where
@@ -77,8 +71,8 @@ module _ (img : Image) (offset : ℕ) (h : Head) (s : Serves img) (e : finder (c
   unfolding activate
   passed =
       let z : answerOf (length (storesFor img (Activate offset))) (activate m (walk n m) offset h) .answer ≡ done = ap (λ (v : Verdict). answerOf (length (storesFor img (Activate offset))) v .answer) (sym verdict-is) ∙ a in
-      let x = test-done (not (hasState RESERVED h)) wrongState _ _ (omega arith) z in
-      let y = test-done (not (allValid m (walk n m) h)) badTarget _ _ (omega arith) (x .1) in
+      let x = done-test (not (hasState RESERVED h)) wrongState _ _ (omega arith) z in
+      let y = done-test (not (allValid m (walk n m) h)) badTarget _ _ (omega arith) (x .1) in
       (not-false _ (x .0), not-false _ (y .0))
 
   stores-are : storesFor img (Activate offset) ≡ activateStores m h

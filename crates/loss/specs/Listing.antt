@@ -18,7 +18,7 @@ use Rattle.rules.specs.Stores.{lastOf}
 use Rattle.word.specs.Memory.{upd-other}
 use Rattle.laws.specs.Searches.{differ, and-both, any-each, each-map, each-right, seek-each, seek-same, seek-split, those-each}
 use Rattle.laws.specs.Landing.{last-each}
-use Rattle.laws.specs.Tilings.{tiles-le}
+use Rattle.laws.specs.Tilings.{tiles-in}
 use Rattle.laws.specs.Stored.{withState, reads-right}
 use Rattle.loss.specs.Held.{Held, Idle}
 use Rattle.loss.specs.Fates.{Kept, fates-list, Beyond, Rests}
@@ -38,16 +38,6 @@ slots-in a =
     (at 16 (omega arith) (omega arith) refl, (at 32 (omega arith) (omega arith) refl, (at 48 (omega arith) (omega arith) refl, tt)))
 
 -- a valid target is in place
-tiles-in : (a b : ℕ) (hs : List Head) → Tiles a hs b → Each (λ h. (a ≤ h .at) × (endOf h ≤ b)) hs
-tiles-in a b hs t = go a hs t (omega arith)
-  where
-    go : (c : ℕ) (hs : List Head) → Tiles c hs b → a ≤ c → Each (λ h. (a ≤ h .at) × (endOf h ≤ b)) hs
-    go c [] t l = tt
-    go c (h ∷ hs) t l =
-        let e = t .0 .here in
-        let u = tiles-le (c + h .nbytes) b hs (t .1) in
-        ((omega arith, omega arith), go (c + h .nbytes) hs (t .1) (omega arith))
-
 valid-place : (n t : ℕ) (hs : List Head) → Tiles clumpsAt hs n → isValid hs t ≡ true → inPlace n t ≡ true
 unfolding isValid inPlace
 valid-place n t hs s e =
@@ -56,11 +46,11 @@ valid-place n t hs s e =
     go : (b : Bool) → (b || any (λ h. isLive h && lies (bodyOf h) (endOf h) t) hs) ≡ true → (b || lies clumpsAt n t) ≡ true
     go true f = refl
     go false f =
-        let y = any-each (λ h. (clumpsAt ≤ h .at) × (endOf h ≤ n)) (λ h. isLive h && lies (bodyOf h) (endOf h) t) hs f (tiles-in clumpsAt n hs s) in
+        let y = any-each (λ h. (clumpsAt ≤ h .at) × (h .at < n) × (endOf h ≤ n)) (λ h. isLive h && lies (bodyOf h) (endOf h) t) hs f (tiles-in clumpsAt n hs s) in
         let z = and-both (leb (bodyOf (y .0)) t) _ (and-both (isLive (y .0)) _ (y .1) .1) in
         let l = leb-true (bodyOf (y .0)) t (z .0) in
         let u = leb-true (t + wordBytes) (endOf (y .0)) (z .1) in
-        rw (le-leb clumpsAt t (omega (arith, y .2 .0)), le-leb (t + wordBytes) n (omega (arith, y .2 .1)))
+        rw (le-leb clumpsAt t (omega (arith, y .2 .0)), le-leb (t + wordBytes) n (omega (arith, y .2 .2)))
 
 place-some : (n t : ℕ) → inPlace n t ≡ true → t ≡ 0 → ⊥
 unfolding inPlace

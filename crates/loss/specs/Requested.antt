@@ -28,7 +28,7 @@ use Rattle.laws.specs.Named.{Off}
 use Rattle.laws.specs.Pools.{Sound}
 use Rattle.loss.specs.Held.{Held, Idle, held-walk, idle-sound, sound-held}
 use Rattle.loss.specs.Fates.{fates, Owned, resting}
-use Rattle.loss.specs.Reserving.{reserves}
+use Rattle.loss.specs.Reserving.{Reserved, reserves}
 use Rattle.loss.specs.Listing.{value-rests, target-held, withdrawn-held}
 use Rattle.loss.specs.Owning.{owned-off, owned-beyond, rests-as, SameFate, own-fate}
 use Rattle.loss.specs.Recovering.{recovers}
@@ -67,20 +67,27 @@ module _ (n : ℕ) (m : Mem) (s : Sound n m) (u : unsettled (walk n m) ≡ false
   none-made : (b : Bool) → Course n m b []
   none-made b = course-none n m b s u
 
-  placed-course : (size : ℕ) → (size ≡ 0 → ⊥) → (o : Option Head) → seek (fits (needOf size)) (walk n m) ≡ o → Course n m false (storesOf (placed (needOf size) o))
-  placed-course size z none e = none-made false
-  placed-course size z (some h) e =
-      let a = amid n m (fits (needOf size)) h s u e in
+  -- the clump that reserve finds
+  pub placing :
+      (size : ℕ) → (size ≡ 0 → ⊥) → (h : Head) → seek (fits (needOf size)) (walk n m) ≡ some h → (a : Amid n m h)
+      → let k = fates m (a .below ++ (h ∷ a .above)) in
+      Reserved n (Owned k) k m m (a .below) h (a .above) (needOf size)
+  placing size z h e a =
       let p = a .below in
       let q = a .above in
       let f = and-both (isFree h) _ (seek-split (fits (needOf size)) (walk n m) h e .passes) in
       let k = fates m (p ++ (h ∷ q)) in
       let t = a .held .tiles in
-      let r = reserves n (Owned k) k m p h q (f .0) (λ o d. each-right (Off o) p (h ∷ q) (owned-off n m (p ++ (h ∷ q)) o t d) .0 .whole (f .0)) in
-      let x =
-      r m (needOf size) (need-even size) (need-least size z) (leb-true (needOf size) (h .nbytes) (f .1))
-      (rests-as n (Owned k) m (p ++ (h ∷ q)) (a .held) (a .idle) (owned-beyond n m (p ++ (h ∷ q)) t)) in
-      course-comes n k m m false (reserveStores (needOf size) h) (p ++ (x .clump ∷ x .above)) (x .comes) (x .calm (a .apart))
+      reserves n (Owned k) k m p h q (f .0) (λ o d. each-right (Off o) p (h ∷ q) (owned-off n m (p ++ (h ∷ q)) o t d) .0 .whole (f .0)) m (needOf size) (need-even size) (need-least size z)
+      (leb-true (needOf size) (h .nbytes) (f .1))
+      (rests-as n (Owned k) m (p ++ (h ∷ q)) (a .held) (a .idle) (owned-beyond n m (p ++ (h ∷ q)) t))
+
+  placed-course : (size : ℕ) → (size ≡ 0 → ⊥) → (o : Option Head) → seek (fits (needOf size)) (walk n m) ≡ o → Course n m false (storesOf (placed (needOf size) o))
+  placed-course size z none e = none-made false
+  placed-course size z (some h) e =
+      let a = amid n m (fits (needOf size)) h s u e in
+      let x = placing size z h e a in
+      course-comes n _ m m false (reserveStores (needOf size) h) (a .below ++ (x .clump ∷ x .above)) (x .comes) (x .calm (a .apart))
 
   -- the list of a clump
   listed-course : (h : Head) (o t v : ℕ) → Amid n m h → isWaiting h ≡ true → (e : Option ℕ) → seek (isEmpty m) (slots (h .at)) ≡ e → Course n m false (storesOf (listed (isValid (walk n m) t) e o t v))

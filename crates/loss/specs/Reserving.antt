@@ -33,6 +33,17 @@ no-targets x a e f g =
     let none : (s : ℕ) → x s ≡ 0 → isUsed x s ≡ false = (λ s z. ap (λ (v : ℕ). not (eqb v 0)) z) in
     ap (map (entry x)) (those-nil (isUsed x) (slots a) (none _ e, (none _ f, (none _ g, tt))))
 
+-- what reserve leaves of the FREE clump h, between p and q
+pub record Reserved (n : ℕ) (D : ℕ → Type 0) (k : List Kept) (w m : Mem) (p : List Head) (h : Head) (q : List Head) (need : ℕ) : Type 0 where
+  pub clump : Head
+  pub above : List Head
+  pub place : clump .at ≡ h .at
+  pub room : need ≤ clump .nbytes
+  pub less : clump .nbytes ≤ h .nbytes
+  pub state : clump .state ≡ RESERVED
+  pub comes : Comes n D k w m (reserveStores need h) (p ++ (clump ∷ above))
+  pub calm : touching (p ++ (h ∷ q)) ≡ false → touching (p ++ (clump ∷ above)) ≡ false
+
 -- a FREE clump h, which no place of D lies in
 module _ (n : ℕ) (D : ℕ → Type 0) (k : List Kept) (w : Mem) (p : List Head) (h : Head) (q : List Head) (free : isFree h ≡ true) (clear : (o : ℕ) → D o → (o < h .at) ⊎ (endOf h ≤ o)) where
   abbrev a : ℕ
@@ -126,17 +137,6 @@ module _ (n : ℕ) (D : ℕ → Type 0) (k : List Kept) (w : Mem) (p : List Head
       subst (λ (b : ℕ). Rests n D k w (upd y (stateAt b) RESERVED) (p ++ (withState g RESERVED ∷ r))) i
       (state-rests n D k w y p g r RESERVED f (omega arith) refl (free-loose n y g e .lost) refl (empty-good n x (withState g RESERVED) d))
 
-  -- what reserve leaves
-  pub record Reserved (m : Mem) (need : ℕ) : Type 0 where
-    pub clump : Head
-    pub above : List Head
-    pub place : clump .at ≡ a
-    pub room : need ≤ clump .nbytes
-    pub less : clump .nbytes ≤ h .nbytes
-    pub state : clump .state ≡ RESERVED
-    pub comes : Comes n D k w m (reserveStores need h) (p ++ (clump ∷ above))
-    pub calm : touching (p ++ (h ∷ q)) ≡ false → touching (p ++ (clump ∷ above)) ≡ false
-
   whole-taken : (m : Mem) → Rests n D k w m (p ++ (h ∷ q)) → Comes n D k w m (emptying (slots a) ++ (setState h RESERVED ∷ [])) (p ++ (withState h RESERVED ∷ q))
   whole-taken m f =
       clearing m (setState h RESERVED ∷ []) (p ++ (withState h RESERVED ∷ q)) f
@@ -176,11 +176,11 @@ module _ (n : ℕ) (D : ℕ → Type 0) (k : List Kept) (w : Mem) (p : List Head
       (comes-none n D k w _ ends (takes m6 (fore need) (rest need ∷ q) refl refl none f6))))))
 
   -- both
-  pub reserves : (m : Mem) (need : ℕ) → need % unit ≡ 0 → leastClump ≤ need → need ≤ h .nbytes → Rests n D k w m (p ++ (h ∷ q)) → Reserved m need
+  pub reserves : (m : Mem) (need : ℕ) → need % unit ≡ 0 → leastClump ≤ need → need ≤ h .nbytes → Rests n D k w m (p ++ (h ∷ q)) → Reserved n D k w m p h q need
   unfolding reserveStores
   reserves m need e l u f = go (leb leastRest (h .nbytes - need)) refl
     where
-      go : (b : Bool) → leb leastRest (h .nbytes - need) ≡ b → Reserved m need
+      go : (b : Bool) → leb leastRest (h .nbytes - need) ≡ b → Reserved n D k w m p h q need
       go true z =
           let y = leb-true leastRest (h .nbytes - need) z in
           record {

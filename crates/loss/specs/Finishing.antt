@@ -25,6 +25,7 @@ use Rattle.laws.specs.Headers.{AgreeAt, Agree, AgreePage, slots-same, used-same
 use Rattle.laws.specs.Stored.{withState, reads-right}
 use Rattle.laws.specs.Mending.{settle}
 use Rattle.loss.specs.Cuts.{Every, every-append, cuts-every}
+use Rattle.loss.specs.Orders.{activeOrder}
 use Rattle.loss.specs.Held.{Held, Idle, Pends}
 use Rattle.loss.specs.Fates.{Kept, isKept, fates, fates-none, fates-one, fates-agree, Beyond, Rests, Leads, Led, resting, leading}
 use Rattle.loss.specs.Parts.{Elsewhere, front-slots, Parted, parted-one, Segment, reads-agree, lists-agree, held-replaced, fates-replaced, held-state, fates-state, state-word, each-other}
@@ -242,8 +243,8 @@ module _ (n : ℕ) (D : ℕ → Type 0) (k : List Kept) (w m : Mem) (p : List He
       ∙ sym (fates-one y h i))
       (λ o d. sym (ap (λ (l : List Store). after y l o) emptied-all) ∙ g .words o d)
 
-  pub activated-led : h .state ≡ ACTIVATING → Every (Led n D k w) m (finishActivating m h) × Rests n D k w (after m (finishActivating m h)) (p ++ (withState h ACTIVE ∷ q))
-  unfolding finishActivating after
+  pub activated-led : h .state ≡ ACTIVATING → Every (Led n D k w) m (activeOrder m h) × Rests n D k w (after m (activeOrder m h)) (p ++ (withState h ACTIVE ∷ q))
+  unfolding activeOrder finishActivating after
   activated-led z =
       let st = entries m (h .at) in
       let u = usedSlots m (h .at) in
@@ -274,6 +275,7 @@ module _ (n : ℕ) (D : ℕ → Type 0) (k : List Kept) (w m : Mem) (p : List He
 
   -- either: the clump is then settled
   pub finishing-led : Every (Led n D k w) m (finishing m (some h)) × Rests n D k w (after m (finishing m (some h))) (p ++ (settle h ∷ q))
+  unfolding activeOrder
   finishing-led =
       ⊎-elim (λ (z : h .state ≡ ACTIVATING). let b : hasState ACTIVATING h ≡ true = ap (λ (s : ℕ). eqb s ACTIVATING) z in rw b (activated-led z))
       (λ (z : h .state ≡ FREEING).

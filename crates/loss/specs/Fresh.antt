@@ -26,6 +26,7 @@ use Rattle.laws.specs.Searches.{differ, and-both, each-map, seek-at, seek-split
 use Rattle.laws.specs.Landing.{found-lies}
 use Rattle.laws.specs.Tilings.{tiles-in}
 use Rattle.laws.specs.Pools.{Sound, done-test, done-settled}
+use Rattle.loss.specs.Orders.{reserveOrder}
 use Rattle.loss.specs.Held.{held-walk}
 use Rattle.loss.specs.Parts.{Parted, parted-one}
 use Rattle.loss.specs.Images.{finished-mem}
@@ -86,7 +87,7 @@ unfolding verdict ifSettled ifSound reserve
 reserve-is n m size h s u z e = rw (s .pool, s .sound, u, ne-eqb size 0 z, e)
 
 pub fresh : Fresh
-unfolding verdict
+unfolding verdict reserveOrder
 fresh img size fuse b d =
     let n = length img in
     let m = mem img in

@@ -17,6 +17,7 @@ use Rattle.word.specs.Memory.{mem-carry, length-carry, bytes-carry}
 use Rattle.laws.specs.Landing.{one-word}
 use Rattle.laws.specs.Named.{each-take}
 use Rattle.laws.specs.Pools.{Sound}
+use Rattle.loss.specs.Orders.{recoverOrder}
 use Rattle.loss.specs.Cuts.{every-cut}
 use Rattle.loss.specs.Fates.{Kept, Rests, Led}
 use Rattle.loss.specs.Readings.{Calm}
@@ -46,6 +47,7 @@ module _ (n : ℕ) (D : ℕ → Type 0) (k : List Kept) (w : Mem) where
 
   -- a recovery that is cut
   pub cut-leading : (img : Image) (j : ℕ) → Leading n D k w img → Leading n D k w (cut img Recover j)
+  unfolding recoverOrder
   cut-leading img j f =
       let m = mem img in
       let st = recoverStores m (walk n m) in
@@ -69,6 +71,7 @@ module _ (n : ℕ) (D : ℕ → Type 0) (k : List Kept) (w : Mem) where
     pub calm : Calm clumps
 
   pub finished-recovered : (img : Image) → Leading n D k w img → Recovered (finished img Recover)
+  unfolding recoverOrder
   finished-recovered img f =
       let m = mem img in
       let st = recoverStores m (walk n m) in

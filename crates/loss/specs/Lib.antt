@@ -2,6 +2,7 @@
 pub mod Cuts
 pub mod Held
 pub mod Fates
+pub mod Orders
 pub mod Parts
 pub mod Redo
 pub mod Emptied

@@ -20,6 +20,7 @@ use Rattle.laws.specs.Searches.{none-seek, each-left, each-right}
 use Rattle.laws.specs.Stored.{withState}
 use Rattle.laws.specs.Mending.{settle, freed, map-released, map-idle, map-split, releasing-cons, releasing-settle}
 use Rattle.loss.specs.Cuts.{Every, every-append}
+use Rattle.loss.specs.Orders.{recoverOrder}
 use Rattle.loss.specs.Held.{held-walk, pends-seek}
 use Rattle.loss.specs.Fates.{Kept, isKept, Rests, Leads, Led, resting, leading}
 use Rattle.loss.specs.Finishing.{finishing-led}
@@ -138,19 +139,19 @@ module _ (n : ℕ) (D : ℕ → Type 0) (k : List Kept) (w : Mem) where
   pub record Recovers (m : Mem) : Type 0 where
     pub clumps : List Head
     pub calm : Calm clumps
-    pub comes : Comes m (recoverStores m (walk n m)) clumps
+    pub comes : Comes m (recoverOrder m (walk n m)) clumps
 
-  recovers-as : (m : Mem) (hs : List Head) → walk n m ≡ hs → (gs : List Head) → Comes m (recoverStores m hs) (calmed gs) → Recovers m
+  recovers-as : (m : Mem) (hs : List Head) → walk n m ≡ hs → (gs : List Head) → Comes m (recoverOrder m hs) (calmed gs) → Recovers m
   recovers-as m hs e gs c = record { clumps = calmed gs; calm = calmed-calm gs; comes = rw e c }
 
   rest-recovers : (m : Mem) (hs : List Head) → Rests n D k w m hs → Recovers m
-  unfolding recoverStores
+  unfolding recoverOrder recoverStores
   rest-recovers m hs f =
       let e : map released hs ≡ map freed hs = sym (map-released _ _ hs (f .held .tiles)) ∙ ap (map freed) (map-idle hs (f .idle)) in
       recovers-as m hs (held-walk n m hs (f .held)) hs (rw (none-seek isPending hs (f .idle), e) (mended-comes m hs f))
 
   lead-recovers : (m : Mem) (p : List Head) (h : Head) (q : List Head) → Leads n D k w m p h q → Recovers m
-  unfolding recoverStores
+  unfolding recoverOrder recoverStores
   lead-recovers m p h q f =
       let hs = p ++ (h ∷ q) in
       let t = f .pends .held .tiles in

@@ -26,6 +26,7 @@ use Rattle.laws.specs.Behind.{behind-test, behind-sound, behind-settled, behind
 use Rattle.laws.specs.Landing.{need-even}
 use Rattle.laws.specs.Named.{Off}
 use Rattle.laws.specs.Pools.{Sound}
+use Rattle.loss.specs.Orders.{reserveOrder, listOrder, recoverOrder}
 use Rattle.loss.specs.Held.{Held, Idle, held-walk, idle-sound, sound-held}
 use Rattle.loss.specs.Fates.{fates, Owned, resting}
 use Rattle.loss.specs.Reserving.{Reserved, reserves}
@@ -83,6 +84,7 @@ module _ (n : ℕ) (m : Mem) (s : Sound n m) (u : unsettled (walk n m) ≡ false
       (rests-as n (Owned k) m (p ++ (h ∷ q)) (a .held) (a .idle) (owned-beyond n m (p ++ (h ∷ q)) t))
 
   placed-course : (size : ℕ) → (size ≡ 0 → ⊥) → (o : Option Head) → seek (fits (needOf size)) (walk n m) ≡ o → Course n m false (storesOf (placed (needOf size) o))
+  unfolding reserveOrder
   placed-course size z none e = none-made false
   placed-course size z (some h) e =
       let a = amid n m (fits (needOf size)) h s u e in
@@ -91,12 +93,13 @@ module _ (n : ℕ) (m : Mem) (s : Sound n m) (u : unsettled (walk n m) ≡ false
 
   -- the list of a clump
   listed-course : (h : Head) (o t v : ℕ) → Amid n m h → isWaiting h ≡ true → (e : Option ℕ) → seek (isEmpty m) (slots (h .at)) ≡ e → Course n m false (storesOf (listed (isValid (walk n m) t) e o t v))
+  unfolding listOrder
   listed-course h o t v a w none e = none-made false
   listed-course h o t v a w (some i) e =
       behind-test (Course n m false) (none-made false) (not (isValid (walk n m) t)) badTarget _
       (λ z. go (subst (λ (hs : List Head). isValid hs t ≡ true) (a .whole) (not-false _ z)))
     where
-      go : isValid (a .below ++ (h ∷ a .above)) t ≡ true → Course n m false (listStores i t v)
+      go : isValid (a .below ++ (h ∷ a .above)) t ≡ true → Course n m false (listOrder i t v)
       go z =
           let p = a .below in
           let q = a .above in
@@ -141,6 +144,7 @@ module _ (n : ℕ) (m : Mem) (s : Sound n m) (u : unsettled (walk n m) ≡ false
 
 -- recovery, of any sound pool
 pub recover-course : (n : ℕ) (m : Mem) → Sound n m → Course n m false (recoverStores m (walk n m))
+unfolding recoverOrder
 recover-course n m s =
     let f = own-fate n m s in
     let r = recovers n (Owned (f .kept)) (f .kept) (f .words) m (f .one) in

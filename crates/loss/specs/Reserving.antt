@@ -18,6 +18,7 @@ use Rattle.word.specs.Memory.{upd-same, upd-other}
 use Rattle.laws.specs.Searches.{each-right, those-nil}
 use Rattle.laws.specs.Headers.{entries-same}
 use Rattle.laws.specs.Stored.{withState, reads-right}
+use Rattle.loss.specs.Orders.{reserveOrder}
 use Rattle.loss.specs.Held.{Idle}
 use Rattle.loss.specs.Fates.{Kept, isKept, fates-none, Beyond, Rests}
 use Rattle.loss.specs.Parts.{one-store, front-slots, Parted, parted-one, replaced}
@@ -41,7 +42,7 @@ pub record Reserved (n : ℕ) (D : ℕ → Type 0) (k : List Kept) (w m : Mem) (
   pub room : need ≤ clump .nbytes
   pub less : clump .nbytes ≤ h .nbytes
   pub state : clump .state ≡ RESERVED
-  pub comes : Comes n D k w m (reserveStores need h) (p ++ (clump ∷ above))
+  pub comes : Comes n D k w m (reserveOrder need h) (p ++ (clump ∷ above))
   pub calm : touching (p ++ (h ∷ q)) ≡ false → touching (p ++ (clump ∷ above)) ≡ false
 
 -- a FREE clump h, which no place of D lies in
@@ -177,7 +178,7 @@ module _ (n : ℕ) (D : ℕ → Type 0) (k : List Kept) (w : Mem) (p : List Head
 
   -- both
   pub reserves : (m : Mem) (need : ℕ) → need % unit ≡ 0 → leastClump ≤ need → need ≤ h .nbytes → Rests n D k w m (p ++ (h ∷ q)) → Reserved n D k w m p h q need
-  unfolding reserveStores
+  unfolding reserveOrder reserveStores
   reserves m need e l u f = go (leb leastRest (h .nbytes - need)) refl
     where
       go : (b : Bool) → leb leastRest (h .nbytes - need) ≡ b → Reserved n D k w m p h q need

@@ -17,6 +17,7 @@ use Rattle.laws.specs.Searches.{differ}
 use Rattle.laws.specs.Headers.{finish-activating-same, finish-freeing-same}
 use Rattle.laws.specs.Stored.{withState}
 use Rattle.laws.specs.Pools.{Sound}
+use Rattle.loss.specs.Orders.{activeOrder, dropOrder}
 use Rattle.loss.specs.Held.{Held, Idle, Pends, idle-sound}
 use Rattle.loss.specs.Fates.{Kept, isKept, fates, Beyond, Owned, Rests, Leads, Led}
 use Rattle.loss.specs.Parts.{front-slots, each-other}
@@ -46,7 +47,7 @@ module _ (n : ℕ) (m : Mem) (p : List Head) (h : Head) (q : List Head) (held : 
     activating = let z = eqb-true (h .state) RESERVED reserved in begins n m p h q ACTIVATING held idle (omega arith) refl (rw z) valid
 
     pub activates : (D : ℕ → Type 0) → ((o : ℕ) → D o → Each (Beyond o) (p ++ (h ∷ q))) → Comes n D (kept ACTIVATING) (words ACTIVATING) (begun ACTIVATING) (finishActivating m h) (p ++ (withState h ACTIVE ∷ q))
-    unfolding finishActivating
+    unfolding activeOrder finishActivating
     activates D off =
         let x = begun ACTIVATING in
         let f = leads-as n D x p (withState h ACTIVATING) q activating (λ o d. each-other (Beyond o) p h (withState h ACTIVATING) q (λ b. b) (off o d)) in
@@ -108,9 +109,10 @@ module _ (n : ℕ) (m : Mem) (p : List Head) (h : Head) (q : List Head) (held : 
       let d = both-joined n (Owned k) k m (begun FREE) p h q (s .0) (s .1) g in
       course-comes n k m m true (setState h FREE ∷ joinBoth (nextFree q) (lastFree p) h) (d .clumps) (comes-store n (Owned k) k m m (setState h FREE) _ (p ++ (h ∷ q)) (d .clumps) f (d .comes)) (d .apart)
 
-  pub free-course : isWaiting h ≡ true → mayDrop m (p ++ (h ∷ q)) h ≡ true → touching (p ++ (h ∷ q)) ≡ false → Course n m true (freeStores m (p ++ (h ∷ q)) h)
-  unfolding freeStores dropStores
-  free-course w v t = rw joins-are (go (hasState ACTIVE h) refl v)
+  -- of either
+  dropped-course : isWaiting h ≡ true → mayDrop m (p ++ (h ∷ q)) h ≡ true → touching (p ++ (h ∷ q)) ≡ false → Course n m true (dropOrder m h ++ joinBoth (nextFree q) (lastFree p) h)
+  unfolding dropOrder dropStores
+  dropped-course w v t = go (hasState ACTIVE h) refl v
     where
       other : (b : Bool) {c : Bool} → (b || c) ≡ true → c ≡ false → b ≡ true
       other true f g = refl
@@ -123,3 +125,7 @@ module _ (n : ℕ) (m : Mem) (p : List Head) (h : Head) (q : List Head) (held : 
           → Course n m true (cond b (setState h FREEING ∷ finishFreeing m h) (setState h FREE ∷ []) ++ joinBoth (nextFree q) (lastFree p) h)
       go true e v = active-course e v t
       go false e v = reserved-course (other (hasState RESERVED h) w e) t
+
+  pub free-course : isWaiting h ≡ true → mayDrop m (p ++ (h ∷ q)) h ≡ true → touching (p ++ (h ∷ q)) ≡ false → Course n m true (freeStores m (p ++ (h ∷ q)) h)
+  unfolding freeStores dropOrder
+  free-course w v t = rw joins-are (dropped-course w v t)

@@ -1,0 +1,27 @@
+-- The orders of stores that the laws of cuts are about, each by its name in the rules. A law that is about one of them opens it here,
+-- so that another order in its place (crates/loss/must-fail) is refused by the law. Assumes nothing.
+use Prim.Native.Nat.{ℕ}
+use mathlib.Core.List.{List}
+use Rattle.rules.specs.Words.{Mem, Store}
+use Rattle.rules.specs.Clumps.{Head}
+use Rattle.rules.specs.Stores.{reserveStores, listStores, finishActivating, dropStores, recoverStores}
+
+-- reserve: the rest's header, the targets, the smaller nbytes, the state
+unfoldable pub reserveOrder : ℕ → Head → List Store
+reserveOrder need h = reserveStores need h
+
+-- onactive and onfree: the value, then the target
+unfoldable pub listOrder : ℕ → ℕ → ℕ → List Store
+listOrder s target value = listStores s target value
+
+-- activate and recover: the assignments, the list emptied first to last, ACTIVE
+unfoldable pub activeOrder : Mem → Head → List Store
+activeOrder m h = finishActivating m h
+
+-- free, before its joins: FREEING, the assignments, FREE
+unfoldable pub dropOrder : Mem → Head → List Store
+dropOrder m h = dropStores m h
+
+-- recover: the list being carried out, then the RESERVED clumps, then the runs
+unfoldable pub recoverOrder : Mem → List Head → List Store
+recoverOrder m hs = recoverStores m hs

@@ -1,29 +1,28 @@
 -- A second recovery makes no store: after the first nothing is pending, nothing is reserved and no two FREE clumps touch. By what a
 -- finished recovery leaves, or by its refusal. Assumes nothing.
 use Prim.Native.Nat.{ℕ}
-use mathlib.Core.Path.{_≡_, refl, sym, ap, ap₂, subst, _∙_}
+use mathlib.Core.Path.{_≡_, refl, sym, ap, ap₂, _∙_}
 use mathlib.Core.Bool.{false}
 use mathlib.Core.Logic.{_⊎_, inl, inr, ⊎-elim}
-use mathlib.Core.List.{List, [], _∷_, _++_, map}
+use mathlib.Core.List.{List, [], _∷_, map}
 use lib.ListN.{length}
 use Rattle.rules.specs.declared.Request.the-variants.{Recover}
 use Rattle.rules.specs.Lists.{Each}
-use Rattle.rules.specs.Words.{Image, Mem, Store, Bytes, mem, carry}
-use Rattle.rules.specs.Clumps.{Head, hasState, isPending, RESERVED, walk}
-use Rattle.rules.specs.Answers.{storesOf, granted}
-use Rattle.rules.specs.Stores.{releasing, released, runs, joining, recoverStores}
+use Rattle.rules.specs.Words.{Image, Mem, Store, mem, carry}
+use Rattle.rules.specs.Clumps.{Head, hasState, isPending, RESERVED}
+use Rattle.rules.specs.Answers.{storesOf}
+use Rattle.rules.specs.Stores.{releasing, released, recoverStores}
 use Rattle.rules.specs.Requests.{verdict, storesFor, finished}
 use Rattle.rules.specs.PowerLoss.{SecondRecovery}
 use Rattle.laws.specs.Searches.{none-seek, those-nil}
 use Rattle.laws.specs.Behind.{behind-sound}
 use Rattle.laws.specs.Pools.{Sound}
 use Rattle.laws.specs.Mending.{freed, map-released, map-idle}
-use Rattle.loss.specs.Held.{Idle, held-walk, idle-sound}
+use Rattle.loss.specs.Held.{held-walk, idle-sound}
 use Rattle.loss.specs.Fates.{Kept, Owned}
 use Rattle.loss.specs.Joined.{calm-joins}
-use Rattle.loss.specs.Readings.{Calm}
 use Rattle.loss.specs.Owning.{own-fate}
-use Rattle.loss.specs.Images.{recover-stores, Leading, Recovered, finished-recovered}
+use Rattle.loss.specs.Images.{recover-stores, Recovered, finished-recovered}
 
 -- nothing reserved, nothing to release
 freed-none : (hs : List Head) → Each (λ h. hasState RESERVED h ≡ false) hs → map freed hs ≡ hs

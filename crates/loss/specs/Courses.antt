@@ -1,9 +1,9 @@
 -- The course of a request on a settled pool: every cut is sound, the end is settled, and a cut is recovered to what the rule says. By
 -- what its stores come to, request by request. Assumes nothing.
-use Prim.Native.Nat.{ℕ, zero, suc, _+_, _<_, _≤_}
-use mathlib.Core.Path.{_≡_, refl, sym, ap, subst, _∙_}
-use mathlib.Core.Bool.{Bool, true, false, cond, not, _||_}
-use mathlib.Core.List.{List, [], _∷_, _++_}
+use Prim.Native.Nat.{ℕ, zero, suc, _<_}
+use mathlib.Core.Path.{_≡_}
+use mathlib.Core.Bool.{Bool, true, false, cond}
+use mathlib.Core.List.{List, [], _∷_}
 use native.Mathlib.Omega.{arith}
 use lib.ListN.{length, take}
 use Rattle.rules.specs.Lists.{any, Each}
@@ -12,10 +12,10 @@ use Rattle.rules.specs.Clumps.{Head, isPending, walk}
 use Rattle.rules.specs.Sound.{touching, unsettled}
 use Rattle.laws.specs.Searches.{none-any, or-neither, any-none}
 use Rattle.laws.specs.Pools.{Sound}
-use Rattle.loss.specs.Cuts.{Every, every-start, every-end, every-cut}
+use Rattle.loss.specs.Cuts.{every-start, every-cut}
 use Rattle.loss.specs.Held.{Held, Idle, held-walk, idle-sound}
-use Rattle.loss.specs.Fates.{Kept, Owned, Rests, Led, resting, leading}
-use Rattle.loss.specs.Owning.{SameFate, led-sound, own-fate}
+use Rattle.loss.specs.Fates.{Kept, Owned, Rests, Led, resting}
+use Rattle.loss.specs.Owning.{SameFate, led-sound}
 use Rattle.loss.specs.Recovering.{Comes}
 
 -- the stores st of a request on m; `through` if one store is enough to carry it through

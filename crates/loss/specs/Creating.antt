@@ -10,7 +10,7 @@ use lib.ListN.{length, take, length-append}
 use lib.Seq.{take-append-le}
 use borrow.Author.Tests.{eq-eqb, ne-eqb}
 use Rattle.rules.specs.declared.Request.the-variants.{Create}
-use Rattle.rules.specs.Lists.{any, Each}
+use Rattle.rules.specs.Lists.{any}
 use Rattle.rules.specs.Words.{Image, Mem, Store, Aligned, store, mem, upd, after, carry, zeros, allZero, le, wordBytes}
 use Rattle.rules.specs.Pages.{pageBytes, staticAt, headerAt, signature, signatureLow, signatureHigh, signatureHighAt, totalAt, paddingAt, paddingWords, clumpsAt, rightLength, isPool}
 use Rattle.rules.specs.Clumps.{Head, headerBytes, stateAt, FREE}

@@ -1,7 +1,6 @@
 -- Cuts: what holds after each number of a list's stores. It is built store by store and joined over `++`, by induction on the stores.
 -- Assumes nothing.
 use Prim.Native.Nat.{ℕ, zero, suc}
-use mathlib.Core.Path.{_≡_, subst}
 use mathlib.Core.List.{List, [], _∷_, _++_}
 use lib.ListN.{take}
 use Rattle.rules.specs.Words.{Mem, Store, upd, after}

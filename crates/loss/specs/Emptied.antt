@@ -3,18 +3,17 @@
 use Prim.Native.Nat.{ℕ, zero, suc, _+_, _≤_}
 use mathlib.Core.Path.{_≡_, refl, sym, ap, _∙_}
 use mathlib.Core.Bool.{Bool, true, false, cond, not, _&&_, _||_}
-use mathlib.Core.List.{List, [], _∷_, _++_, map}
+use mathlib.Core.List.{List, [], _∷_, map}
 use native.Mathlib.Omega.{arith}
 use lib.Dec.{eqb}
 use lib.ListN.{take, drop}
-use borrow.Author.Tests.{eq-eqb}
 use Rattle.rules.specs.Lists.{those, any, Each}
 use Rattle.rules.specs.Words.{Mem, Store, upd, after}
 use Rattle.rules.specs.Clumps.{Head, isEmpty, isUsed, slots, valueAt, usedSlots, entry, entries, isWaiting}
 use Rattle.rules.specs.Sound.{gapped, listBad}
 use Rattle.rules.specs.Stores.{emptying}
 use Rattle.word.specs.Memory.{upd-same, upd-other}
-use Rattle.laws.specs.Searches.{each-map, those-each, nil-those, none-any}
+use Rattle.laws.specs.Searches.{those-each, nil-those, none-any}
 use Rattle.laws.specs.Headers.{SameSlots, used-same, entries-same}
 use Rattle.laws.specs.Named.{each-take}
 use Rattle.loss.specs.Redo.{Spares, after-spared}

@@ -1,23 +1,18 @@
 -- What recovery will make of a pool, whatever its state: the clumps that it keeps, with their lists, and the words of those places that
 -- no header covers. By the laws of choices in lists. Assumes nothing.
-use Prim.Native.Nat.{ℕ, _+_, _<_, _≤_}
-use mathlib.Core.Path.{_≡_, refl, sym, ap, ap₂, subst, _∙_}
-use mathlib.Core.Bool.{Bool, true, false, cond, not, _&&_, _||_}
-use mathlib.Core.Logic.{_⊎_, inl, inr, ⊎-elim}
+use Prim.Native.Nat.{ℕ, _<_, _≤_}
+use mathlib.Core.Path.{_≡_, refl, sym, ap, _∙_}
+use mathlib.Core.Bool.{Bool, true, false, cond, _||_}
+use mathlib.Core.Logic.{_⊎_}
 use mathlib.Core.List.{List, [], _∷_, _++_, map}
-use native.Mathlib.Omega.{arith}
 use Rattle.rules.specs.Lists.{those, any, Each}
-use Rattle.rules.specs.Words.{Mem, Store, after, upd, wordBytes}
-use Rattle.rules.specs.Pages.{clumpsAt, staticAt, staticEnd, headerAt}
-use Rattle.rules.specs.Clumps.{Head, bodyOf, endOf, hasState, headerBytes, leastClump, stateAt, isPending, slots, entries, ACTIVATING, ACTIVE, Tiles}
-use Rattle.rules.specs.Sound.{listBad}
+use Rattle.rules.specs.Words.{Mem, Store, after}
+use Rattle.rules.specs.Pages.{staticAt, staticEnd}
+use Rattle.rules.specs.Clumps.{Head, bodyOf, endOf, hasState, slots, entries, ACTIVATING, ACTIVE}
 use Rattle.rules.specs.Reading.{within}
-use Rattle.word.specs.Memory.{upd-other}
-use Rattle.laws.specs.Searches.{those-each, those-nil, those-append, each-append, each-map}
-use Rattle.laws.specs.Tilings.{tiles-le, tiles-split, tiles-join}
-use Rattle.laws.specs.Walks.{Reads}
-use Rattle.laws.specs.Headers.{AgreeAt, Agree, AgreePage, slots-same, entries-same, list-same, map-same, pool-same}
-use Rattle.laws.specs.Stored.{withState, reads-append, reads-left, reads-right}
+use Rattle.laws.specs.Searches.{those-each, those-nil, those-append, each-map}
+use Rattle.laws.specs.Headers.{AgreeAt, Agree, slots-same, entries-same, map-same}
+use Rattle.laws.specs.Stored.{withState}
 use Rattle.loss.specs.Held.{Held, Idle, Pends}
 
 -- a clump that recovery keeps is ACTIVE then, and has its list, or none if that is being carried out

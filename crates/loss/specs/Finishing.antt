@@ -1,11 +1,11 @@
 -- Carrying a list out, cut after any store: recovery still leaves what it would have left. The assignments are made again, by the laws
 -- of redoing; an emptied beginning of the list leaves an end of it; the last store brings the clump to rest. Assumes nothing.
 use Prim.Native.Nat.{ℕ, zero, suc, _+_, _<_, _≤_}
-use mathlib.Core.Path.{_≡_, refl, sym, ap, ap₂, subst, _∙_}
+use mathlib.Core.Path.{_≡_, refl, sym, ap, subst, _∙_}
 use mathlib.Core.Bool.{Bool, true, false, cond, _||_}
 use mathlib.Core.Logic.{_⊎_, inl, inr, ⊎-elim}
 use mathlib.Core.Option.{some}
-use mathlib.Core.List.{List, [], _∷_, _++_, map}
+use mathlib.Core.List.{List, [], _∷_, _++_}
 use native.Mathlib.Omega.{arith}
 use lib.Dec.{eqb}
 use lib.ListN.{length, take, drop, length-map, drop-of-length-le}
@@ -14,11 +14,11 @@ use borrow.Author.Tests.{eqb-true}
 use Rattle.rules.specs.Lists.{those, Each}
 use Rattle.rules.specs.Words.{Mem, Store, store, upd, after}
 use Rattle.rules.specs.Pages.{clumpsAt}
-use Rattle.rules.specs.Clumps.{Head, endOf, stateAt, hasState, isPending, isWaiting, isUsed, slots, usedSlots, entry, entries, ACTIVATING, ACTIVE, FREEING, FREE, Tiles}
+use Rattle.rules.specs.Clumps.{Head, endOf, stateAt, hasState, isPending, isUsed, slots, usedSlots, entry, entries, ACTIVATING, ACTIVE, FREEING, FREE, Tiles}
 use Rattle.rules.specs.Sound.{isValid, listBad}
 use Rattle.rules.specs.Stores.{emptying, setState, finishActivating, finishFreeing, finishing}
-use Rattle.word.specs.Memory.{upd-same, upd-other, after-append}
-use Rattle.laws.specs.Searches.{those-each, each-append, each-left, each-right, each-drop}
+use Rattle.word.specs.Memory.{after-append}
+use Rattle.laws.specs.Searches.{those-each, each-append, each-right, each-drop}
 use Rattle.laws.specs.Walks.{Reads}
 use Rattle.laws.specs.Named.{each-take}
 use Rattle.laws.specs.Headers.{AgreeAt, Agree, AgreePage, slots-same, used-same, entries-same, valid-same, pool-same}
@@ -26,7 +26,7 @@ use Rattle.laws.specs.Stored.{withState, reads-right}
 use Rattle.laws.specs.Mending.{settle}
 use Rattle.loss.specs.Cuts.{Every, every-append, cuts-every}
 use Rattle.loss.specs.Orders.{activeOrder}
-use Rattle.loss.specs.Held.{Held, Idle, Pends}
+use Rattle.loss.specs.Held.{Idle}
 use Rattle.loss.specs.Fates.{Kept, isKept, fates, fates-none, fates-one, fates-agree, Beyond, Rests, Leads, Led, resting, leading}
 use Rattle.loss.specs.Parts.{Elsewhere, front-slots, Parted, parted-one, Segment, reads-agree, lists-agree, held-replaced, fates-replaced, held-state, fates-state, state-word, each-other}
 use Rattle.loss.specs.Redo.{Spares, after-spared, after-at, redo-start, redo-end}

@@ -1,13 +1,12 @@
 -- Free and activate, cut after any store. The first store decides; from then on the list is carried out as recovery would do it, and the
 -- FREE clump joins its FREE neighbours, one store each. Assumes nothing.
-use Prim.Native.Nat.{ℕ, _+_, _≤_}
-use mathlib.Core.Path.{_≡_, refl, sym, ap, subst, _∙_}
-use mathlib.Core.Bool.{Bool, true, false, cond, _&&_, _||_, and-true}
+use Prim.Native.Nat.{ℕ, _+_}
+use mathlib.Core.Path.{_≡_, refl, ap, subst, _∙_}
+use mathlib.Core.Bool.{true, false, _&&_, and-true}
 use mathlib.Core.Option.{Option, some, none}
 use mathlib.Core.List.{List, [], _∷_, _++_, append-assoc}
 use native.Mathlib.Omega.{arith}
-use Rattle.rules.specs.Lists.{Each}
-use Rattle.rules.specs.Words.{Mem, Store, upd, after}
+use Rattle.rules.specs.Words.{Mem, Store, upd}
 use Rattle.rules.specs.Clumps.{Head, isFree}
 use Rattle.rules.specs.Sound.{touching, startsFree}
 use Rattle.rules.specs.Stores.{joinBefore, joinBoth}

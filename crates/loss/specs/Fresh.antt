@@ -2,27 +2,27 @@
 -- tiling. By what reserve's stores come to. Assumes nothing.
 use Prim.Native.Nat.{ℕ, _+_, _<_, _≤_}
 use mathlib.Core.Path.{_≡_, refl, sym, ap, ap₂, subst, _∙_}
-use mathlib.Core.Bool.{Bool, true, false, not}
-use mathlib.Core.Logic.{_⊎_, inl, inr}
+use mathlib.Core.Bool.{Bool, true, false}
+use mathlib.Core.Logic.{inl, inr}
 use mathlib.Core.Option.{Option, some, none}
 use mathlib.Core.List.{List, [], _∷_, _++_}
 use native.Mathlib.Omega.{arith}
-use lib.Dec.{eqb, leb, ltb}
+use lib.Dec.{eqb, ltb}
 use lib.ListN.{length, take}
 use borrow.Author.Tests.{eq-eqb, ne-eqb, eqb-false, leb-true, not-true}
 use Rattle.rules.specs.declared.Request.the-variants.{Reserve}
 use Rattle.rules.specs.Lists.{seek, Each}
-use Rattle.rules.specs.Words.{Image, Mem, Store, mem, after}
-use Rattle.rules.specs.Pages.{clumpsAt, isPool}
+use Rattle.rules.specs.Words.{Image, Mem, Store, Bytes, mem, after, wordValues}
+use Rattle.rules.specs.Pages.{clumpsAt}
 use Rattle.rules.specs.Clumps.{Head, headerBytes, bodyOf, endOf, isFree, isLive, RESERVED, Tiles, walk}
-use Rattle.rules.specs.Sound.{Fault, judge, unsettled}
+use Rattle.rules.specs.Sound.{unsettled}
 use Rattle.rules.specs.Answers.{Verdict, refuse, granted, answerOf, answerAt, done, sizeZero, noRoom, storesOf, ifSound, ifSettled}
 use Rattle.rules.specs.Stores.{needOf, fits, reserveStores}
-use Rattle.rules.specs.Requests.{placed, reserve, finder, verdict, verdictOn, storesFor, finished, answerOn}
+use Rattle.rules.specs.Requests.{placed, reserve, finder, verdict, storesFor, finished, answerOn}
 use Rattle.rules.specs.Reading.{clumpsOf}
 use Rattle.rules.specs.Demands.{Apart, Fresh}
 use Rattle.word.specs.Memory.{length-carry}
-use Rattle.laws.specs.Searches.{differ, and-both, each-map, seek-at, seek-split, each-append, each-left, each-right}
+use Rattle.laws.specs.Searches.{differ, and-both, each-map, seek-at, seek-split, each-append}
 use Rattle.laws.specs.Landing.{found-lies}
 use Rattle.laws.specs.Tilings.{tiles-in}
 use Rattle.laws.specs.Pools.{Sound, done-test, done-settled}
@@ -31,6 +31,8 @@ use Rattle.loss.specs.Held.{held-walk}
 use Rattle.loss.specs.Parts.{Parted, parted-one}
 use Rattle.loss.specs.Images.{finished-mem}
 use Rattle.loss.specs.Requested.{Amid, amid, placing}
+use Rattle.loss.specs.Fates.{fates, Owned}
+use Rattle.loss.specs.Reserving.{Reserved}
 
 -- a grant that is done has its place
 granted-place : (fuse p : ℕ) (st : List Store) → answerOf fuse (granted p st) .answer ≡ done → answerOf fuse (granted p st) .place ≡ p
@@ -52,7 +54,7 @@ unfolding needOf
 need-room size = omega arith
 
 -- the clump j that reserve makes at the place of the FREE clump h
-module _ (n size : ℕ) (p : List Head) (h : Head) (q : List Head) (j : Head) (r : List Head) (t : Tiles clumpsAt (p ++ (h ∷ q)) n) (free : isFree h ≡ true) (place : j .at ≡ h .at) (less : j .nbytes ≤ h .nbytes) where
+module _ (n : ℕ) (p : List Head) (h : Head) (q : List Head) (j : Head) (r : List Head) (t : Tiles clumpsAt (p ++ (h ∷ q)) n) (free : isFree h ≡ true) (place : j .at ≡ h .at) (less : j .nbytes ≤ h .nbytes) where
   parts : Parted n p (h .at) (h ∷ []) (endOf h) q
   parts = parted-one n p h q t
 
@@ -86,31 +88,46 @@ reserve-is : (n : ℕ) (m : Mem) (size : ℕ) (h : Head) → Sound n m → unset
 unfolding verdict ifSettled ifSound reserve
 reserve-is n m size h s u z e = rw (s .pool, s .sound, u, ne-eqb size 0 z, e)
 
+-- a reserve that finds h: what it leaves
+module _ (img : Image) (size : ℕ) (b : Bytes img) (s : Sound (length img) (mem img)) (u : unsettled (clumpsOf img) ≡ false) (z : size ≡ 0 → ⊥) (h : Head) (e : seek (fits (needOf size)) (clumpsOf img) ≡ some h) (a : Amid (length img) (mem img) h) where
+  large : (isFree h ≡ true) × (needOf size ≤ h .nbytes)
+  large =
+      let f = and-both (isFree h) _ (seek-split (fits (needOf size)) (clumpsOf img) h e .passes) in
+      (f .0, leb-true (needOf size) (h .nbytes) (f .1))
+
+  -- the size is a word
+  number : size < wordValues
+  number = let l = found-lies (length img) (mem img) s (fits (needOf size)) h e in omega (arith, l .room, l .small, large .1, need-room size)
+
+  left : Reserved (length img) (Owned (fates (mem img) (a .below ++ (h ∷ a .above)))) (fates (mem img) (a .below ++ (h ∷ a .above))) (mem img) (mem img) (a .below) h (a .above) (needOf size)
+  left = placing (length img) (mem img) s u size z h e a
+
+  clumps-are : clumpsOf (finished img (Reserve size)) ≡ a .below ++ (left .clump ∷ left .above)
+  unfolding reserveOrder
+  clumps-are =
+      let st = storesFor img (Reserve size) in
+      let i : st ≡ reserveStores (needOf size) h = ap storesOf (reserve-is (length img) (mem img) size h s u z e) in
+      ap₂ walk (length-carry img st) (finished-mem img (Reserve size) b number ∙ ap (after (mem img)) i)
+      ∙ held-walk (length img) (after (mem img) (reserveStores (needOf size) h)) (a .below ++ (left .clump ∷ left .above)) (left .comes .ends .held)
+
+  place-is : (fuse : ℕ) → answerOn img (Reserve size) fuse .answer ≡ done → answerOn img (Reserve size) fuse .place ≡ bodyOf h
+  place-is fuse d =
+      let v = reserve-is (length img) (mem img) size h s u z e in
+      ap (λ (w : Verdict). answerOf fuse w .place) v ∙ granted-place fuse (bodyOf h) (reserveStores (needOf size) h) (ap (λ (w : Verdict). answerOf fuse w .answer) (sym v) ∙ d)
+
+  made : (fuse : ℕ) → answerOn img (Reserve size) fuse .answer ≡ done → (j : Head) × (finder (clumpsOf (finished img (Reserve size))) (answerOn img (Reserve size) fuse .place) ≡ some j) × (j .state ≡ RESERVED) × (bodyOf j + size ≤ endOf j) × Each (λ k. isLive k ≡ true → Apart j k) (clumpsOf img)
+  made fuse d =
+      let t = a .held .tiles in (
+        left .clump,
+        rw (clumps-are, place-is fuse d) (found-there (length img) (a .below) h (a .above) (left .clump) (left .above) t (large .0) (left .place) (left .less)),
+        left .state,
+        omega (arith, left .room, need-room size),
+        subst (Each (λ k. isLive k ≡ true → Apart (left .clump) k)) (sym (a .whole)) (apart (length img) (a .below) h (a .above) (left .clump) (left .above) t (large .0) (left .place) (left .less)),
+      )
+
 pub fresh : Fresh
-unfolding verdict reserveOrder
+unfolding verdict
 fresh img size fuse b d =
-    let n = length img in
-    let m = mem img in
-    let x = done-settled n m fuse (reserve (walk n m) size) d in
-    let y = reserve-done (walk n m) size fuse (x .2) in
-    let z = y .0 in
-    let h = y .1 in
-    let e = y .2 in
-    let v = reserve-is n m size h (x .0) (x .1) z e in
-    let a = amid n m (fits (needOf size)) h (x .0) (x .1) e in
-    let r = placing n m (x .0) (x .1) size z h e a in
-    let l = found-lies n m (x .0) (fits (needOf size)) h e in
-    let f = and-both (isFree h) _ (seek-split (fits (needOf size)) (walk n m) h e .passes) in
-    let k = need-room size in
-    let st = storesFor img (Reserve size) in
-    let i : st ≡ reserveStores (needOf size) h = ap storesOf v in
-    let g = finished-mem img (Reserve size) b (omega (arith, l .room, l .small, leb-true (needOf size) (h .nbytes) (f .1))) ∙ ap (after m) i in
-    let c : clumpsOf (finished img (Reserve size)) ≡ a .below ++ (r .clump ∷ r .above) = ap₂ walk (length-carry img st) g ∙ held-walk n (after m (reserveStores (needOf size) h)) _ (r .comes .ends .held) in
-    let p : answerOn img (Reserve size) fuse .place ≡ bodyOf h = ap (λ (w : Verdict). answerOf fuse w .place) v ∙ granted-place fuse (bodyOf h) _ (ap (λ (w : Verdict). answerOf fuse w .answer) (sym v) ∙ d) in
-    let t = a .held .tiles in (
-      r .clump,
-      rw (c, p) (found-there n size (a .below) h (a .above) (r .clump) (r .above) t (f .0) (r .place) (r .less)),
-      r .state,
-      omega (arith, r .room),
-      subst (Each (λ j. isLive j ≡ true → Apart (r .clump) j)) (sym (a .whole)) (apart n size (a .below) h (a .above) (r .clump) (r .above) t (f .0) (r .place) (r .less)),
-    )
+    let x = done-settled (length img) (mem img) fuse (reserve (clumpsOf img) size) d in
+    let y = reserve-done (clumpsOf img) size fuse (x .2) in
+    made img size b (x .0) (x .1) (y .0) (y .1) (y .2) (amid (length img) (mem img) (fits (needOf size)) (y .1) (x .0) (x .1) (y .2)) fuse d

@@ -1,19 +1,19 @@
 -- What a sound pool holds: its page, its clumps as a tiling, their headers and lists; at rest, or with one clump whose list is being
 -- carried out. A memory that holds so much is sound, and a sound one holds so much. By the laws of the walk. Assumes nothing.
-use Prim.Native.Nat.{ℕ, _+_, _%_, _<_, _≤_}
-use mathlib.Core.Path.{_≡_, refl, sym, ap, subst, _∙_}
+use Prim.Native.Nat.{ℕ, _+_, _%_}
+use mathlib.Core.Path.{_≡_, refl, sym, ap, subst}
 use mathlib.Core.Bool.{Bool, true, false, cond, not}
 use mathlib.Core.Option.{Option, some, none, Option·map}
 use mathlib.Core.List.{List, [], _∷_, _++_}
 use native.Mathlib.Omega.{arith}
-use lib.Dec.{eqb, ltb}
-use borrow.Author.Tests.{lt-ltb, le-ltb, eq-eqb, eqb-true, not-false}
-use Rattle.rules.specs.Lists.{seek, those, any, Each}
+use lib.Dec.{eqb}
+use borrow.Author.Tests.{le-ltb, eq-eqb}
+use Rattle.rules.specs.Lists.{seek, those, Each}
 use Rattle.rules.specs.Words.{Mem}
 use Rattle.rules.specs.Pages.{clumpsAt, unit, isPool}
-use Rattle.rules.specs.Clumps.{Head, head, endOf, stateAt, leastClump, FREEING, isPending, Tiles, headsFrom, walk}
-use Rattle.rules.specs.Sound.{Fault, sizeBad, stateBad, listBad, faultOf, faultAt, clumpFault, second, secondFault, isValid, allValid, invalid, targetFault, orElse, judge, touching, unsettled}
-use Rattle.laws.specs.Searches.{differ, or-neither, any-none, none-any, seek-none, none-seek, seek-split, seek-at, those-nil, those-append, each-map}
+use Rattle.rules.specs.Clumps.{Head, endOf, leastClump, FREEING, isPending, Tiles, walk}
+use Rattle.rules.specs.Sound.{sizeBad, stateBad, listBad, faultOf, faultAt, clumpFault, secondFault, allValid, targetFault, judge}
+use Rattle.laws.specs.Searches.{differ, seek-none, none-seek, seek-split, seek-at, those-nil, those-append, each-map}
 use Rattle.laws.specs.Tilings.{tiles-le}
 use Rattle.laws.specs.Walks.{Reads, isFaulty, map-none, no-faults, heads-read, walk-finds, sound-tiles}
 use Rattle.laws.specs.Pools.{Sound, pool-length}

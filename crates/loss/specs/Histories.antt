@@ -1,24 +1,22 @@
 -- Histories: every image on the way is a sound pool, every finished request and recovery leaves it settled, and a cut request once
 -- recovered reads as the rule says. By induction on the history, with the course of each request. Assumes nothing.
-use Prim.Native.Nat.{ℕ, zero, suc, _<_, _≤_}
-use mathlib.Core.Path.{_≡_, refl, sym, ap, subst, _∙_}
+use Prim.Native.Nat.{ℕ, zero, suc, _<_}
+use mathlib.Core.Path.{_≡_, refl, sym, subst, _∙_}
 use mathlib.Core.Bool.{Bool, true, false, cond, _&&_, and-false}
-use mathlib.Core.Option.{none}
-use mathlib.Core.List.{List, []}
+use mathlib.Core.List.{List}
 use native.Mathlib.Omega.{arith}
-use lib.ListN.{length, take, getD}
+use lib.ListN.{length, take}
 use lib.Seq.{take-length}
 use lib.Dec.{ltb}
 use borrow.Author.Tests.{ltb-false}
 use Rattle.rules.specs.declared.Request.{Request}
 use Rattle.rules.specs.declared.Request.the-variants.{Create, Reserve, Onactive, Onfree, Withdraw, Activate, Free, Check, Recover}
 use Rattle.rules.specs.Words.{Image, Mem, Store, Bytes, mem, after, carry}
-use Rattle.rules.specs.Pages.{clumpsAt, headerAt, staticAt, staticEnd, rightLength, isPool}
-use Rattle.rules.specs.Clumps.{Head, bodyOf, endOf, isWaiting, Tiles, walk}
-use Rattle.rules.specs.Sound.{judge, unsettled}
-use Rattle.rules.specs.Answers.{storesOf}
-use Rattle.rules.specs.Requests.{Numbers, verdict, storesFor, cut, finished}
-use Rattle.rules.specs.Reading.{clumpsOf, Tiled, reading, within, inPart, mayWrite, hidden}
+use Rattle.rules.specs.Pages.{headerAt, staticAt, staticEnd, rightLength, isPool}
+use Rattle.rules.specs.Clumps.{Head, bodyOf, endOf, isWaiting, walk}
+use Rattle.rules.specs.Sound.{unsettled}
+use Rattle.rules.specs.Requests.{Numbers, storesFor, cut, finished}
+use Rattle.rules.specs.Reading.{clumpsOf, within, inPart, mayWrite, hidden}
 use Rattle.rules.specs.Traces.{Wrote, Recovering, isCreate, isCarriedThrough, Cut, Ready, created, asked, recovered, written, OnTheWay, ready, cutOff, asIf}
 use Rattle.rules.specs.Demands.{Settled, Alike}
 use Rattle.rules.specs.PowerLoss.{AlwaysTiles, StaysSettled, ReadsAs}
@@ -30,8 +28,8 @@ use Rattle.laws.specs.Pools.{Sound}
 use Rattle.loss.specs.Held.{sound-held, idle-sound}
 use Rattle.loss.specs.Fates.{Kept, Owned, Rests, Led}
 use Rattle.loss.specs.Calm.{one-more}
-use Rattle.loss.specs.Readings.{Calm, reads-same}
-use Rattle.loss.specs.Owning.{SameFate, own-fate, led-sound}
+use Rattle.loss.specs.Readings.{reads-same}
+use Rattle.loss.specs.Owning.{own-fate, led-sound}
 use Rattle.loss.specs.Courses.{Course, held-calm, calm-idle}
 use Rattle.loss.specs.Requested.{courses}
 use Rattle.loss.specs.Images.{cut-mem, finished-mem, Leading, recovering-leading, Recovered, finished-recovered}

@@ -1,13 +1,12 @@
 -- From memories to images: what a request leaves of an image, cut or finished, has the memory after the stores, the same length, and
 -- bytes. By the law that every store is one aligned word. Assumes nothing.
 use Prim.Native.Nat.{ℕ}
-use mathlib.Core.Path.{_≡_, refl, sym, ap, subst, _∙_}
-use mathlib.Core.Option.{none}
-use mathlib.Core.List.{List, []}
+use mathlib.Core.Path.{_≡_, sym, ap, subst, _∙_}
+use mathlib.Core.List.{List}
 use lib.ListN.{length, take}
 use Rattle.rules.specs.declared.Request.{Request}
 use Rattle.rules.specs.declared.Request.the-variants.{Recover}
-use Rattle.rules.specs.Words.{Image, Mem, Store, Bytes, Aligned, mem, after, carry}
+use Rattle.rules.specs.Words.{Image, Mem, Store, Bytes, Aligned, mem, after}
 use Rattle.rules.specs.Clumps.{Head, walk}
 use Rattle.rules.specs.Answers.{storesOf, ifSound}
 use Rattle.rules.specs.Stores.{recoverStores}

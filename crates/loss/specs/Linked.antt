@@ -3,8 +3,8 @@
 -- no store of either but the assignments reaches a body or the static area. Assumes nothing.
 use Prim.Native.Nat.{ℕ, zero, suc, _<_}
 use mathlib.Core.Path.{_≡_, refl, sym, ap, subst, _∙_}
-use mathlib.Core.Bool.{Bool, true, false, not}
-use mathlib.Core.Logic.{_⊎_, inl, inr, ⊎-elim}
+use mathlib.Core.Bool.{true, not}
+use mathlib.Core.Logic.{_⊎_, inl, inr}
 use mathlib.Core.Option.{Option, some, none}
 use mathlib.Core.List.{List, [], _∷_, _++_}
 use native.Mathlib.Omega.{arith}
@@ -13,15 +13,14 @@ use borrow.Author.Tests.{eqb-true, not-false}
 use Rattle.rules.specs.declared.Request.the-variants.{Activate, Recover}
 use Rattle.rules.specs.Lists.{Each}
 use Rattle.rules.specs.Words.{Image, Mem, Store, mem, upd, after, carry, wordValues}
-use Rattle.rules.specs.Pages.{clumpsAt}
-use Rattle.rules.specs.Clumps.{Head, bodyOf, hasState, stateAt, slots, entries, RESERVED, ACTIVATING, Tiles, walk}
+use Rattle.rules.specs.Clumps.{Head, bodyOf, hasState, stateAt, slots, entries, RESERVED, ACTIVATING, walk}
 use Rattle.rules.specs.Sound.{isValid, allValid}
-use Rattle.rules.specs.Answers.{Verdict, test, answerOf, done, wrongState, badTarget, storesOf, ifSound, ifSettled}
-use Rattle.rules.specs.Stores.{setState, finishActivating, activateStores}
-use Rattle.rules.specs.Requests.{finder, found, activate, verdict, storesFor, cut, finished}
+use Rattle.rules.specs.Answers.{Verdict, answerOf, done, wrongState, badTarget, storesOf, ifSound, ifSettled}
+use Rattle.rules.specs.Stores.{finishActivating, activateStores}
+use Rattle.rules.specs.Requests.{finder, activate, verdict, storesFor, cut, finished}
 use Rattle.rules.specs.Reading.{clumpsOf}
 use Rattle.rules.specs.Traces.{Recovering}
-use Rattle.rules.specs.Demands.{Settled, Accepted, entriesOf}
+use Rattle.rules.specs.Demands.{Accepted, entriesOf}
 use Rattle.rules.specs.PowerLoss.{Distinct, AllOrNone}
 use Rattle.word.specs.Memory.{upd-same, length-carry, bytes-carry}
 use Rattle.laws.specs.Searches.{each-map, each-both, seek-split}

@@ -1,25 +1,25 @@
 -- Onactive, onfree and withdraw: a store to the list of one clump leaves the pool sound with the same clumps, and the value that goes
 -- first tells recovery nothing. By the laws of a list under one store. Assumes nothing.
 use Prim.Native.Nat.{ℕ, _+_, _-_, _%_, _<_, _≤_}
-use mathlib.Core.Path.{_≡_, refl, sym, ap, subst, _∙_}
-use mathlib.Core.Bool.{Bool, true, false, cond, not, _&&_, _||_}
+use mathlib.Core.Path.{_≡_, refl, ap, subst, _∙_}
+use mathlib.Core.Bool.{Bool, true, false, _&&_, _||_}
 use mathlib.Core.Logic.{⊎-elim}
 use mathlib.Core.Option.{some}
 use mathlib.Core.List.{List, [], _∷_, _++_}
 use native.Mathlib.Omega.{arith}
 use lib.Dec.{eqb, leb}
 use borrow.Author.Tests.{leb-true, le-leb, not-true}
-use Rattle.rules.specs.Lists.{seek, those, any, Each}
-use Rattle.rules.specs.Words.{Mem, Store, upd, wordBytes}
+use Rattle.rules.specs.Lists.{seek, any, Each}
+use Rattle.rules.specs.Words.{Mem, upd, wordBytes}
 use Rattle.rules.specs.Pages.{clumpsAt, staticAt, staticEnd}
-use Rattle.rules.specs.Clumps.{Head, bodyOf, endOf, stateAt, isLive, isWaiting, isEmpty, isUsed, slots, usedSlots, valueAt, entries, hasState, ACTIVE, Tiles}
+use Rattle.rules.specs.Clumps.{Head, bodyOf, endOf, stateAt, isLive, isWaiting, isEmpty, isUsed, slots, usedSlots, valueAt, entries, Tiles}
 use Rattle.rules.specs.Sound.{isEven, lies, inPlace, isValid, listBad}
 use Rattle.rules.specs.Stores.{lastOf}
 use Rattle.word.specs.Memory.{upd-other}
 use Rattle.laws.specs.Searches.{differ, and-both, any-each, each-map, each-right, seek-each, seek-same, seek-split, those-each}
 use Rattle.laws.specs.Landing.{last-each}
 use Rattle.laws.specs.Tilings.{tiles-in}
-use Rattle.laws.specs.Stored.{withState, reads-right}
+use Rattle.laws.specs.Stored.{reads-right}
 use Rattle.loss.specs.Held.{Held, Idle}
 use Rattle.loss.specs.Fates.{Kept, fates-list, Beyond, Rests}
 use Rattle.loss.specs.Parts.{Elsewhere, one-store, Parted, parted-one, Segment, held-replaced, replaced}

@@ -1,7 +1,7 @@
 -- Merging: clumps that are FREE and touch become one by the store of their sum to the first one's nbytes, and recovery is none the
 -- wiser. By the law of a part that is replaced. Assumes nothing.
-use Prim.Native.Nat.{ℕ, _+_, _%_, _≤_}
-use mathlib.Core.Path.{_≡_, refl, sym, ap, _∙_}
+use Prim.Native.Nat.{ℕ, _+_, _%_}
+use mathlib.Core.Path.{_≡_, refl, sym, _∙_}
 use mathlib.Core.Bool.{true, false}
 use mathlib.Core.Logic.{⊎-elim}
 use mathlib.Core.List.{List, [], _∷_, _++_}
@@ -15,7 +15,6 @@ use Rattle.rules.specs.Sound.{listBad}
 use Rattle.rules.specs.Answers.{bytesOf}
 use Rattle.word.specs.Memory.{upd-same, upd-other}
 use Rattle.laws.specs.Searches.{each-map, each-right}
-use Rattle.laws.specs.Tilings.{tiles-le}
 use Rattle.laws.specs.Totals.{tiles-bytes}
 use Rattle.laws.specs.Stored.{reads-right}
 use Rattle.loss.specs.Held.{Idle}

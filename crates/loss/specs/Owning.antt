@@ -1,10 +1,9 @@
 -- The words that the reading has lie in no header and in no FREE clump; so every sound pool leads to what it will itself be recovered
 -- to. By the law that a byte of the static area or of a live body lies in no header. Assumes nothing.
-use Prim.Native.Nat.{ℕ, _+_}
-use mathlib.Core.Path.{_≡_, refl, sym, ap, subst, _∙_}
-use mathlib.Core.Bool.{Bool, true, false, cond, not, _&&_, _||_, or-true}
+use Prim.Native.Nat.{ℕ}
+use mathlib.Core.Path.{_≡_, refl}
+use mathlib.Core.Bool.{Bool, true, false, cond, _||_, or-true}
 use mathlib.Core.List.{List, [], _∷_, _++_, map}
-use lib.Dec.{eqb}
 use borrow.Author.Tests.{eqb-true}
 use Rattle.rules.specs.Lists.{those, any, Each}
 use Rattle.rules.specs.Words.{Mem, after}

@@ -1,7 +1,7 @@
 -- One part of the clumps is replaced by another that tiles as much and keeps as much, and nothing else of the pool changes: every
 -- store to a header is such a step. The clumps below and above the part are as they were because their headers are. Assumes nothing.
 use Prim.Native.Nat.{ℕ, _+_, _<_, _≤_}
-use mathlib.Core.Path.{_≡_, refl, ap, ap₂, _∙_, sym}
+use mathlib.Core.Path.{_≡_, refl, ap₂, _∙_, sym}
 use mathlib.Core.Bool.{false}
 use mathlib.Core.Logic.{_⊎_, inl, inr, ⊎-elim}
 use mathlib.Core.List.{List, [], _∷_, _++_}
@@ -15,7 +15,7 @@ use Rattle.word.specs.Memory.{upd-same, upd-other}
 use Rattle.laws.specs.Searches.{each-append, each-left, each-right}
 use Rattle.laws.specs.Tilings.{tiles-le, tiles-split, tiles-join}
 use Rattle.laws.specs.Walks.{Reads}
-use Rattle.laws.specs.Headers.{AgreeAt, Agree, AgreePage, SameSlots, slots-same, list-same, pool-same}
+use Rattle.laws.specs.Headers.{Agree, AgreePage, SameSlots, slots-same, list-same, pool-same}
 use Rattle.laws.specs.Stored.{withState, reads-append, reads-left, reads-right}
 use Rattle.loss.specs.Held.{Held, Idle}
 use Rattle.loss.specs.Fates.{Kept, fates, fates-append, fates-agree, Beyond, Rests}

@@ -1,22 +1,22 @@
 -- Recovery, cut after any store, leaves a pool that recovery makes the same of; finished, it leaves one at rest, with nothing reserved
 -- and no two FREE clumps touching. Part by part: the list is carried out, RESERVED clumps are released, runs are joined; the last two
 -- by induction upward, with the clumps that are done in front. Assumes nothing.
-use Prim.Native.Nat.{ℕ, _+_, _≤_}
-use mathlib.Core.Path.{_≡_, refl, sym, ap, ap₂, subst, _∙_}
+use Prim.Native.Nat.{ℕ}
+use mathlib.Core.Path.{_≡_, refl, sym, ap, subst, _∙_}
 use mathlib.Core.Bool.{Bool, true, false, cond}
-use mathlib.Core.Option.{some, none}
+use mathlib.Core.Option.{some}
 use mathlib.Core.List.{List, [], _∷_, _++_, map, append-assoc}
 use native.Mathlib.Omega.{arith}
 use lib.Dec.{eqb}
 use borrow.Author.Tests.{eqb-true}
-use Rattle.rules.specs.Lists.{seek, Each}
+use Rattle.rules.specs.Lists.{Each}
 use Rattle.rules.specs.Words.{Mem, Store, upd, after}
-use Rattle.rules.specs.Clumps.{Head, hasState, isPending, stateAt, FREE, RESERVED, walk, Tiles}
+use Rattle.rules.specs.Clumps.{Head, hasState, isPending, stateAt, FREE, RESERVED, walk}
 use Rattle.rules.specs.Sound.{listBad}
 use Rattle.rules.specs.Answers.{bytesOf}
 use Rattle.rules.specs.Stores.{setState, finishing, releasing, released, Run, runs, joinRun, joining, recoverStores}
 use Rattle.word.specs.Memory.{after-append}
-use Rattle.laws.specs.Searches.{none-seek, each-left, each-right}
+use Rattle.laws.specs.Searches.{none-seek}
 use Rattle.laws.specs.Stored.{withState}
 use Rattle.laws.specs.Mending.{settle, freed, map-released, map-idle, map-split, releasing-cons, releasing-settle}
 use Rattle.loss.specs.Cuts.{Every, every-append}

@@ -1,24 +1,21 @@
 -- Every request on a settled pool takes its course, whatever its numbers: a refusal stores nothing, and what each test leaves is what the
 -- laws of its stores want. By cases on the requests. Assumes nothing.
-use Prim.Native.Nat.{ℕ, zero, suc, _+_, _%_, _<_, _≤_}
-use mathlib.Core.Path.{_≡_, refl, sym, ap, subst, _∙_}
-use mathlib.Core.Bool.{Bool, true, false, not, _||_, or-true}
-use mathlib.Core.Logic.{⊎-elim}
+use Prim.Native.Nat.{ℕ, _≤_}
+use mathlib.Core.Path.{_≡_, refl, sym, subst}
+use mathlib.Core.Bool.{Bool, true, false, not, or-true}
 use mathlib.Core.Option.{Option, some, none}
 use mathlib.Core.List.{List, [], _∷_, _++_}
 use native.Mathlib.Omega.{arith}
-use lib.Dec.{eqb, leb}
-use lib.ListN.{length, take}
-use borrow.Author.Tests.{leb-true, eqb-true, eqb-false, not-false}
+use lib.Dec.{eqb}
+use borrow.Author.Tests.{leb-true, eqb-false, not-false}
 use Rattle.rules.specs.declared.Request.{Request}
 use Rattle.rules.specs.declared.Request.the-variants.{Create, Reserve, Onactive, Onfree, Withdraw, Activate, Free, Check, Recover}
 use Rattle.rules.specs.Lists.{seek, Each}
-use Rattle.rules.specs.Words.{Mem, Store, upd, after}
-use Rattle.rules.specs.Pages.{unit}
-use Rattle.rules.specs.Clumps.{Head, hasState, isFree, isWaiting, isEmpty, slots, usedSlots, valueAt, endOf, leastClump, RESERVED, ACTIVE, walk}
+use Rattle.rules.specs.Words.{Mem}
+use Rattle.rules.specs.Clumps.{Head, hasState, isFree, isWaiting, isEmpty, slots, usedSlots, leastClump, RESERVED, ACTIVE, walk}
 use Rattle.rules.specs.Sound.{isValid, allValid, touching, unsettled}
 use Rattle.rules.specs.Answers.{storesOf, sizeZero, wrongState, badTarget}
-use Rattle.rules.specs.Stores.{needOf, fits, reserveStores, listStores, withdrawStores, lastOf, activateStores, freeStores, recoverStores}
+use Rattle.rules.specs.Stores.{needOf, fits, reserveStores, freeStores, recoverStores}
 use Rattle.rules.specs.Requests.{placed, reserve, finder, listed, enlist, withdrawn, withdraw, activate, mayDrop, free, verdict}
 use Rattle.rules.specs.Traces.{isCreate, isCarriedThrough}
 use Rattle.laws.specs.Searches.{differ, and-both, each-right, seek-split}
@@ -27,13 +24,13 @@ use Rattle.laws.specs.Landing.{need-even}
 use Rattle.laws.specs.Named.{Off}
 use Rattle.laws.specs.Pools.{Sound}
 use Rattle.loss.specs.Orders.{reserveOrder, listOrder, recoverOrder}
-use Rattle.loss.specs.Held.{Held, Idle, held-walk, idle-sound, sound-held}
-use Rattle.loss.specs.Fates.{fates, Owned, resting}
+use Rattle.loss.specs.Held.{Held, Idle, sound-held}
+use Rattle.loss.specs.Fates.{fates, Owned}
 use Rattle.loss.specs.Reserving.{Reserved, reserves}
 use Rattle.loss.specs.Listing.{value-rests, target-held, withdrawn-held}
-use Rattle.loss.specs.Owning.{owned-off, owned-beyond, rests-as, SameFate, own-fate}
+use Rattle.loss.specs.Owning.{owned-off, owned-beyond, rests-as, own-fate}
 use Rattle.loss.specs.Recovering.{recovers}
-use Rattle.loss.specs.Courses.{Course, held-calm, calm-idle, course-none, course-comes, course-two, course-one}
+use Rattle.loss.specs.Courses.{Course, calm-idle, course-none, course-comes, course-two, course-one}
 use Rattle.loss.specs.Turns.{activate-course, free-course}
 
 -- a clump of a settled pool, with the clumps below and above it

@@ -2,16 +2,15 @@
 -- targets are words that nobody reads; the smaller nbytes splits the clump in two; the state comes last. Assumes nothing.
 use Prim.Native.Nat.{ℕ, _+_, _-_, _%_, _<_, _≤_}
 use mathlib.Core.Path.{_≡_, refl, sym, ap, subst, _∙_}
-use mathlib.Core.Bool.{Bool, true, false, cond, not}
+use mathlib.Core.Bool.{Bool, true, false, not}
 use mathlib.Core.Logic.{_⊎_, inl, inr, ⊎-elim}
 use mathlib.Core.List.{List, [], _∷_, _++_, map}
 use native.Mathlib.Omega.{arith}
 use lib.Dec.{eqb, leb}
 use borrow.Author.Tests.{eqb-true, leb-true}
-use Rattle.rules.specs.Lists.{Each}
 use Rattle.rules.specs.Words.{Mem, Store, store, upd, after}
-use Rattle.rules.specs.Pages.{clumpsAt, unit}
-use Rattle.rules.specs.Clumps.{Head, endOf, stateAt, isFree, isUsed, slots, entry, entries, leastClump, FREE, RESERVED, Tiles}
+use Rattle.rules.specs.Pages.{unit}
+use Rattle.rules.specs.Clumps.{Head, endOf, stateAt, isFree, isUsed, slots, entry, entries, leastClump, FREE, RESERVED}
 use Rattle.rules.specs.Sound.{touching, listBad}
 use Rattle.rules.specs.Stores.{emptying, setState, leastRest, reserveStores}
 use Rattle.word.specs.Memory.{upd-same, upd-other}
@@ -19,9 +18,8 @@ use Rattle.laws.specs.Searches.{each-right, those-nil}
 use Rattle.laws.specs.Headers.{entries-same}
 use Rattle.laws.specs.Stored.{withState, reads-right}
 use Rattle.loss.specs.Orders.{reserveOrder}
-use Rattle.loss.specs.Held.{Idle}
-use Rattle.loss.specs.Fates.{Kept, isKept, fates-none, Beyond, Rests}
-use Rattle.loss.specs.Parts.{one-store, front-slots, Parted, parted-one, replaced}
+use Rattle.loss.specs.Fates.{Kept, fates-none, Beyond, Rests}
+use Rattle.loss.specs.Parts.{one-store, front-slots, parted-one, replaced}
 use Rattle.loss.specs.Emptied.{empty-good}
 use Rattle.loss.specs.Turning.{state-rests}
 use Rattle.loss.specs.Merging.{free-loose}

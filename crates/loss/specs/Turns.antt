@@ -1,31 +1,29 @@
 -- Activate and free of a clump, by what their stores come to: the first store decides what recovery keeps, the others are what recovery
 -- would store, and free's joins follow. Assumes nothing.
-use Prim.Native.Nat.{ℕ, _+_}
-use mathlib.Core.Path.{_≡_, refl, sym, ap, subst, _∙_}
+use Prim.Native.Nat.{ℕ}
+use mathlib.Core.Path.{_≡_, refl, subst}
 use mathlib.Core.Bool.{Bool, true, false, cond, _||_}
 use mathlib.Core.List.{List, [], _∷_, _++_}
 use native.Mathlib.Omega.{arith}
-use lib.Dec.{eqb}
 use borrow.Author.Tests.{eqb-true}
 use Rattle.rules.specs.Lists.{Each}
 use Rattle.rules.specs.Words.{Mem, Store, upd, after}
-use Rattle.rules.specs.Clumps.{Head, stateAt, hasState, isFree, isWaiting, slots, entries, FREE, RESERVED, ACTIVATING, ACTIVE, FREEING}
+use Rattle.rules.specs.Clumps.{Head, stateAt, hasState, isFree, isWaiting, entries, FREE, RESERVED, ACTIVATING, ACTIVE, FREEING}
 use Rattle.rules.specs.Sound.{allValid, touching, listBad}
 use Rattle.rules.specs.Stores.{setState, finishActivating, finishFreeing, activateStores, dropStores, freeAfter, freeBefore, joinBoth, freeStores}
 use Rattle.rules.specs.Requests.{mayDrop}
 use Rattle.laws.specs.Searches.{differ}
 use Rattle.laws.specs.Headers.{finish-activating-same, finish-freeing-same}
 use Rattle.laws.specs.Stored.{withState}
-use Rattle.laws.specs.Pools.{Sound}
 use Rattle.loss.specs.Orders.{activeOrder, dropOrder}
 use Rattle.loss.specs.Held.{Held, Idle, Pends, idle-sound}
-use Rattle.loss.specs.Fates.{Kept, isKept, fates, Beyond, Owned, Rests, Leads, Led}
+use Rattle.loss.specs.Fates.{Kept, isKept, fates, Beyond, Owned}
 use Rattle.loss.specs.Parts.{front-slots, each-other}
 use Rattle.loss.specs.Finishing.{activated-led, freed-led}
 use Rattle.loss.specs.Turning.{state-rests, begins}
 use Rattle.loss.specs.Calm.{touching-sides, touching-like}
 use Rattle.loss.specs.Neighbours.{nextFree, lastFree, free-after, free-before}
-use Rattle.loss.specs.Freeing.{Ends, both-joined}
+use Rattle.loss.specs.Freeing.{both-joined}
 use Rattle.loss.specs.Recovering.{Comes, comes-store, comes-then}
 use Rattle.loss.specs.Owning.{rests-as, leads-as, owned-beyond}
 use Rattle.loss.specs.Courses.{Course, course-comes, course-first}

@@ -48,9 +48,10 @@ unfolding faultOf sizeBad stateBad
 clean n a m [] t e = tt
 clean n a m (h ∷ hs) t e =
     let l = tiles-le (a + h .nbytes) n hs (t .1) in
-    let i = t .0 .here in
-    (rw (eq-eqb (h .nbytes % unit) 0 (t .0 .whole), le-ltb (h .nbytes) leastClump (t .0 .least), le-ltb n (endOf h) (omega arith), le-ltb FREEING (h .state) (t .0 .known), e .0),
-    clean n (a + h .nbytes) m hs (t .1) (e .1))
+    let i = t .0 .here in (
+      rw (eq-eqb (h .nbytes % unit) 0 (t .0 .whole), le-ltb (h .nbytes) leastClump (t .0 .least), le-ltb n (endOf h) (omega arith), le-ltb FREEING (h .state) (t .0 .known), e .0),
+      clean n (a + h .nbytes) m hs (t .1) (e .1),
+    )
 
 held-clean : (n : ℕ) (m : Mem) (hs : List Head) → Held n m hs → clumpFault n m hs ≡ none
 unfolding clumpFault

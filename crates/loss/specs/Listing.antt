@@ -102,7 +102,7 @@ module _ (n : ℕ) (m : Mem) (p : List Head) (h : Head) (q : List Head) (s v : �
       let d = stands .step in (
         upd-other m (valueAt s) v u (omega arith),
         λ z. upd-other m (valueAt s) v (valueAt u)
-        (λ e. differ (subst (λ (o : ℕ). isEmpty m o ≡ true) (let y : s ≡ u = omega arith in y) empty) (not-true _ z)),
+            (λ e. differ (subst (λ (o : ℕ). isEmpty m o ≡ true) (let y : s ≡ u = omega arith in y) empty) (not-true _ z)),
       ))
       (slots-in (h .at))
 

@@ -71,7 +71,7 @@ agree-after : (m : Mem) (st : List Store) (hs : List Head) → Each (λ s. Each 
 agree-after m st [] f = tt
 agree-after m st (h ∷ hs) f = (
   (λ o l u. after-spared m st o
-  (each-map (λ s. Each (Beyond (s .to)) (h ∷ hs)) (λ s. o ≡ s .to → ⊥) st (λ s b e. ⊎-elim (λ x. absurd (omega arith)) (λ x. absurd (omega arith)) (b .0)) f)),
+      (each-map (λ s. Each (Beyond (s .to)) (h ∷ hs)) (λ s. o ≡ s .to → ⊥) st (λ s b e. ⊎-elim (λ x. absurd (omega arith)) (λ x. absurd (omega arith)) (b .0)) f)),
   agree-after m st hs (each-map (λ s. Each (Beyond (s .to)) (h ∷ hs)) (λ s. Each (Beyond (s .to)) hs) st (λ s b. b .1) f),
 )
 

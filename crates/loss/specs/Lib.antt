@@ -1,21 +1,26 @@
--- What power loss leaves: cuts, recovery and histories.
+-- What power loss leaves: cuts, recovery and histories. From the bottom up.
+-- The forms: cuts, what a sound pool holds, what recovery will make of it, and the orders that the laws are about.
 pub mod Cuts
 pub mod Held
 pub mod Fates
 pub mod Orders
+-- One part of the clumps replaced; stores made again; a list emptied; valid targets; a list carried out; one state stored.
 pub mod Parts
 pub mod Redo
 pub mod Emptied
 pub mod Targets
+pub mod Carrying
 pub mod Finishing
 pub mod Turning
-pub mod Merging
+-- FREE clumps: none touching, neighbours, runs, gaps, merging; and what is equal in two readings.
 pub mod Calm
 pub mod Neighbours
 pub mod Joined
+pub mod Merging
 pub mod Gaps
 pub mod Slices
 pub mod Readings
+-- Each request at every cut.
 pub mod Recovering
 pub mod Reserving
 pub mod Freeing
@@ -25,6 +30,7 @@ pub mod Owning
 pub mod Courses
 pub mod Turns
 pub mod Requested
+-- Images and histories: the theorems that the demands name.
 pub mod Images
 pub mod Blanked
 pub mod Creating

@@ -16,7 +16,7 @@ use Rattle.laws.specs.Stored.{withState}
 use Rattle.loss.specs.Held.{Held, Idle, Pends}
 use Rattle.loss.specs.Fates.{Kept, isKept, fates-none, Beyond, Rests}
 use Rattle.loss.specs.Parts.{front-slots, held-state, fates-state, state-word, each-other}
-use Rattle.loss.specs.Finishing.{busy-good}
+use Rattle.loss.specs.Carrying.{busy-good}
 use Rattle.loss.specs.Targets.{valid-entries, entries-valid}
 
 -- the word at t lies in a live body

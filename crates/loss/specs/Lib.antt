@@ -38,3 +38,5 @@ pub mod Histories
 pub mod Again
 pub mod Linked
 pub mod Fresh
+-- The orders that are wrong.
+pub mod Wrong

@@ -13,12 +13,12 @@ use Rattle.rules.specs.declared.Request.{Request}
 use Rattle.rules.specs.declared.Request.the-variants.{Create, Reserve, Onactive, Onfree, Withdraw, Activate, Free, Check, Recover}
 use Rattle.rules.specs.Lists.{seek, those, any, all, Each}
 use Rattle.rules.specs.Words.{Mem, le, Store, Aligned, mem, store, zeros, wordBytes, wordValues}
-use Rattle.rules.specs.Pages.{clumpsAt, staticAt, staticEnd, pageBytes, headerAt, totalAt, signatureHighAt, paddingAt, paddingWords, signature, signatureLow, signatureHigh, isPool, rightLength, unit}
+use Rattle.rules.specs.Pages.{clumpsAt, staticAt, staticEnd, pageBytes, headerAt, totalAt, signatureHighAt, paddingAt, paddingWords, signature, signatureLow, signatureHigh, rightLength, unit}
 use Rattle.rules.specs.Clumps.{Head, bodyOf, endOf, isFree, isLive, isWaiting, isPending, isEmpty, isUsed, slots, usedSlots, valueAt, entry, entries, stateAt, hasState, headerBytes, leastClump, FREE, RESERVED, ACTIVATING, ACTIVE, FREEING, Sits, Tiles, walk}
-use Rattle.rules.specs.Sound.{Fault, judge, unsettled, isEven, lies, isValid, allValid}
-use Rattle.rules.specs.Answers.{Verdict, test, testFault, storesOf, ifSound, ifSettled, notPool, notSettled, sizeZero, wrongState, badTarget, bytesOf}
+use Rattle.rules.specs.Sound.{isEven, lies, holdsWord, isValid, allValid}
+use Rattle.rules.specs.Answers.{storesOf, notPool, sizeZero, wrongState, badTarget, bytesOf}
 use Rattle.rules.specs.Stores.{emptying, setState, createStores, needOf, fits, leastRest, reserveStores, lastOf, finishActivating, finishFreeing, activateStores, dropStores, freeAfter, freeBefore, joinBefore, joinBoth, freeStores, finishing, releasing, released, Run, inFront, runs, joinRun, joining, recoverStores}
-use Rattle.rules.specs.Requests.{Numbers, placed, reserve, finder, found, listed, enlist, withdrawn, withdraw, activate, mayDrop, free, verdict}
+use Rattle.rules.specs.Requests.{Numbers, placed, reserve, finder, listed, enlist, withdrawn, withdraw, activate, mayDrop, free, verdict}
 use Rattle.rules.specs.Demands.{OneWord}
 use Rattle.word.specs.Memory.{mem-bound}
 use Rattle.laws.specs.Searches.{those-each, and-both, any-each, seek-each, seek-split, each-append, each-map}
@@ -40,12 +40,12 @@ valid-in n m t tiles e =
     go :
         (b : Bool)
         → lies staticAt staticEnd t ≡ b
-        → (b || any (λ h. isLive h && lies (bodyOf h) (endOf h) t) (walk n m)) ≡ true
+        → (b || any (holdsWord t) (walk n m)) ≡ true
         → clumpsAt ≤ n
         → t + wordBytes ≤ n
     go true q f l = let c = leb-true (t + wordBytes) staticEnd (and-both (leb staticAt t) _ q .1) in omega arith
     go false q f l =
-        let x = any-each (Placed n m) (λ h. isLive h && lies (bodyOf h) (endOf h) t) (walk n m) f (all-placed n m tiles) in
+        let x = any-each (Placed n m) (holdsWord t) (walk n m) f (all-placed n m tiles) in
         let c = leb-true (t + wordBytes) (endOf (x .0)) (and-both (leb (bodyOf (x .0)) t) _ (and-both (isLive (x .0)) _ (x .1) .1) .1) in
         let s : x .0 .nbytes ≡ m (x .0 .at) = ap (λ (k : Head). k .nbytes) (x .2 .head-is) in
         omega (arith, x .2 .inside .room)

@@ -6,7 +6,8 @@ use lib.ListN.{length, getD, take}
 use Rattle.rules.specs.Words.{Image, Store, store, wordBytes, zeros}
 use Rattle.word.specs.declared.Power.{Power}
 use Rattle.word.specs.Runs.{Ran, ran-then}
-use Rattle.steps.specs.Lists.{targetOf, valueOf, assignsOf, emptiesOf, assigns-more, empties-more, assign-used, assign-empty, empty-one, empty-empty, zeros-more}
+use Rattle.page.specs.Forms.{targetOf, valueOf}
+use Rattle.steps.specs.Lists.{assignsOf, emptiesOf, assigns-more, empties-more, assign-used, assign-empty, empty-one, empty-empty, zeros-more}
 
 -- the same run under another name
 pub ran-as : {img x : Image} {p q : Power} (st ts : List Store) → ts ≡ st → Ran img p st x q → Ran img p ts x q

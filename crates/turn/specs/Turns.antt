@@ -21,7 +21,7 @@ use Rattle.rules.specs.Reading.{clumpsOf, Tiled}
 use Rattle.laws.specs.Searches.{and-both, seek-split}
 use Rattle.laws.specs.Walking.{seek-placed}
 use Rattle.laws.specs.Landing.{valid-in}
-use Rattle.page.specs.Forms.{listAt}
+use Rattle.page.specs.Forms.{targetOf, listAt}
 use Rattle.walk.specs.Forms.{offsetOf, listValid}
 use Rattle.walk.specs.Scans.{offset-none, offset-some, offset-inside, list-valid}
 use Rattle.rules.specs.declared.Answer.{Answer}
@@ -55,14 +55,14 @@ pub record Turned (img : Image) (h state nbytes : ℕ) (l : List (List ℕ)) : T
   pub small : length img < wordValues
   pub valid : state ≡ ACTIVE → listValid (clumpsOf img) l ≡ true
 
-valid-at : (hs : List Head) (l : List (List ℕ)) (i : ℕ) → listValid hs l ≡ true → (getD (getD l i []) 0 0 ≡ 0 → ⊥) → isValid hs (getD (getD l i []) 0 0) ≡ true
+valid-at : (hs : List Head) (l : List (List ℕ)) (i : ℕ) → listValid hs l ≡ true → (targetOf (getD l i []) ≡ 0 → ⊥) → isValid hs (targetOf (getD l i [])) ≡ true
 unfolding listValid
 valid-at hs [] i e h = absurd (h refl)
-valid-at hs (x ∷ l) zero e h = rw (ne-eqb (getD x 0 0) 0 h) at (and-both (eqb (getD x 0 0) 0 || isValid hs (getD x 0 0)) (listValid hs l) e .0)
-valid-at hs (x ∷ l) (suc i) e h = valid-at hs l i (and-both (eqb (getD x 0 0) 0 || isValid hs (getD x 0 0)) _ e .1) h
+valid-at hs (x ∷ l) zero e h = rw (ne-eqb (targetOf x) 0 h) at (and-both (eqb (targetOf x) 0 || isValid hs (targetOf x)) (listValid hs l) e .0)
+valid-at hs (x ∷ l) (suc i) e h = valid-at hs l i (and-both (eqb (targetOf x) 0 || isValid hs (targetOf x)) _ e .1) h
 
 pub list-in : (n : ℕ) (m : Mem) (l : List (List ℕ)) → Tiles clumpsAt (walk n m) n → listValid (walk n m) l ≡ true → InImage n l
-list-in n m l t e i u h = valid-in n m (getD (getD l i []) 0 0) t (valid-at (walk n m) l i e h)
+list-in n m l t e i u h = valid-in n m (targetOf (getD l i [])) t (valid-at (walk n m) l i e h)
 
 -- activate, a law for each way out
 module _ (m : Mem) (hs : List Head) (o : ℕ) (h : Head) where

@@ -4,10 +4,10 @@ use Prim.Native.Nat.{ℕ}
 use mathlib.Core.Bool.{Bool, true, _&&_, _||_}
 use mathlib.Core.List.{List, [], _∷_}
 use lib.Dec.{eqb}
-use lib.ListN.{getD}
 use mathlib.Core.Option.{Option, some, none}
 use Rattle.rules.specs.Clumps.{Head}
 use Rattle.rules.specs.Sound.{isValid}
+use Rattle.page.specs.Forms.{targetOf}
 use Rattle.walk.specs.declared.Found.{Found}
 use Rattle.walk.specs.declared.Found.the-variants.{At, Nothing}
 
@@ -24,4 +24,4 @@ offsetOf n (some h) = h .at
 -- every used target of a list that was read is valid
 unfoldable pub listValid : List Head → List (List ℕ) → Bool
 listValid hs [] = true
-listValid hs (e ∷ es) = (eqb (getD e 0 0) 0 || isValid hs (getD e 0 0)) && listValid hs es
+listValid hs (e ∷ es) = (eqb (targetOf e) 0 || isValid hs (targetOf e)) && listValid hs es

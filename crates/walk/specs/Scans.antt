@@ -2,8 +2,8 @@
 -- searches' answers at the end, at a hit and past a clump. Assumes nothing.
 use Prim.Native.Nat.{ℕ, _+_, _-_, _*_, _/_, _<_, _≤_}
 use mathlib.Core.Path.{_≡_, refl, sym, ap, _∙_}
-use mathlib.Core.List.{List, [], _∷_}
-use mathlib.Core.Bool.{Bool, true, false, _&&_, _||_}
+use mathlib.Core.List.{List, [], _∷_, map}
+use mathlib.Core.Bool.{Bool, true, false, cond, not, _&&_, _||_}
 use mathlib.Core.Option.{Option, some, none}
 use native.Mathlib.Omega.{arith}
 use native.Mathlib.Numerals.{add-one}
@@ -14,15 +14,14 @@ use borrow.Author.Tests.{lt-leb, le-leb}
 use Rattle.rules.specs.Lists.{seek, those, all}
 use Rattle.rules.specs.Words.{Mem}
 use Rattle.rules.specs.Pages.{clumpsAt}
-use Rattle.rules.specs.Clumps.{Head, head, bodyOf, Tiles, walk}
+use Rattle.rules.specs.Clumps.{Head, head, bodyOf, slots, isUsed, Tiles, walk}
 use Rattle.rules.specs.Sound.{lies, isValid, allValid}
 use Rattle.rules.specs.Stores.{needOf}
 use Rattle.rules.specs.Requests.{finder}
 use Rattle.word.specs.Tests.{leb-same}
 use Rattle.laws.specs.Walking.{Inside, seek-placed}
 use Rattle.walk.specs.Forms.{offsetOf, foundOf, listValid}
-use Rattle.page.specs.Forms.{listAt}
-use Rattle.page.specs.Slots.{all-step}
+use Rattle.page.specs.Forms.{entryAt, targetOf, listAt}
 use Rattle.walk.specs.declared.Found.{Found}
 use Rattle.walk.specs.declared.Found.the-variants.{At, Nothing}
 
@@ -89,28 +88,33 @@ module _ (n : ℕ) (m : Mem) (body : ℕ) (tiles : Tiles clumpsAt (walk n m) n) 
   pub found-inside : (h : ℕ) → r ≡ At h → Inside n m h
   found-inside h f = seek-placed n m (λ c. eqb (bodyOf c) body) (head m h) tiles (found-some h f) .inside
 
--- the list that was read from a clump
+-- the list that was read from a clump, one entry after the other
+valid-from : (m : Mem) (hs : List Head) (sl : List ℕ) → listValid hs (map (entryAt m) sl) ≡ all (λ s. isValid hs (m s)) (those (isUsed m) sl)
+unfolding listValid those all
+valid-from m hs [] = refl
+valid-from m hs (s ∷ sl) = go (eqb (m s) 0) (valid-from m hs sl)
+  where
+    go :
+        (b : Bool)
+        → listValid hs (map (entryAt m) sl) ≡ all (λ r. isValid hs (m r)) (those (isUsed m) sl)
+        → ((b || isValid hs (m s)) && listValid hs (map (entryAt m) sl)) ≡ all (λ r. isValid hs (m r)) (cond (not b) (s ∷ those (isUsed m) sl) (those (isUsed m) sl))
+    go true e = e
+    go false e = ap (λ (c : Bool). isValid hs (m s) && c) e
+
 pub list-valid : (m : Mem) (hs : List Head) (a : ℕ) (l : List (List ℕ)) → l ≡ listAt m a → listValid hs l ≡ allValid m hs (head m a)
-unfolding listValid allValid those all
-list-valid m hs a l e =
-    let q = isValid hs in
-    rw e
-    (sym
-    (all-step q m (a + 16) ((a + 32) ∷ (a + 48) ∷ []) (m (a + 16)) refl
-    ∙ ap (λ (b : Bool). (eqb (m (a + 16)) 0 || q (m (a + 16))) && b)
-    (all-step q m (a + 32) ((a + 48) ∷ []) (m (a + 32)) refl
-    ∙ ap (λ (b : Bool). (eqb (m (a + 32)) 0 || q (m (a + 32))) && b) (all-step q m (a + 48) [] (m (a + 48)) refl))))
+unfolding allValid
+list-valid m hs a l e = rw e (valid-from m hs (slots a))
 
 -- a loop over the list: what is left of it still has the answer of the whole
 module _ (hs : List Head) (l : List (List ℕ)) (i : ℕ) (u : i < length l) (w : listValid hs (drop i l) ≡ listValid hs l) where
-  here : listValid hs (drop i l) ≡ ((eqb (getD (getD l i []) 0 0) 0 || isValid hs (getD (getD l i []) 0 0)) && listValid hs (drop (i + 1) l))
+  here : listValid hs (drop i l) ≡ ((eqb (targetOf (getD l i [])) 0 || isValid hs (targetOf (getD l i []))) && listValid hs (drop (i + 1) l))
   unfolding listValid
   here = rw (add-one, drop-cons l i [] u)
 
-  pub valid-stop : (eqb (getD (getD l i []) 0 0) 0 || isValid hs (getD (getD l i []) 0 0)) ≡ false → false ≡ listValid hs l
+  pub valid-stop : (eqb (targetOf (getD l i [])) 0 || isValid hs (targetOf (getD l i []))) ≡ false → false ≡ listValid hs l
   valid-stop f = sym (sym w ∙ here ∙ rw f)
 
-  pub valid-go : (eqb (getD (getD l i []) 0 0) 0 || isValid hs (getD (getD l i []) 0 0)) ≡ true → listValid hs (drop (i + 1) l) ≡ listValid hs l
+  pub valid-go : (eqb (targetOf (getD l i [])) 0 || isValid hs (targetOf (getD l i []))) ≡ true → listValid hs (drop (i + 1) l) ≡ listValid hs l
   valid-go f = sym (here ∙ rw f) ∙ w
 
 pub valid-end : (hs : List Head) (l : List (List ℕ)) (i : ℕ) → length l ≤ i → listValid hs (drop i l) ≡ listValid hs l → true ≡ listValid hs l

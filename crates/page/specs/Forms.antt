@@ -1,9 +1,10 @@
 -- How the code's answers stand for the rules': each is a function of the rule's own answer, so that a contract is an equation.
 -- Assumes nothing.
-use Prim.Native.Nat.{ℕ}
+use Prim.Native.Nat.{ℕ, _+_, _%_, _<_, _≤_}
+use mathlib.Core.Path.{_≡_}
 use mathlib.Core.List.{List, [], _∷_, map}
 use lib.ListN.{getD}
-use Rattle.rules.specs.Words.{Mem}
+use Rattle.rules.specs.Words.{Mem, wordBytes}
 use Rattle.rules.specs.Clumps.{Head, slots, valueAt, targetAt}
 use Rattle.page.specs.declared.clump.Clump.{Clump}
 
@@ -24,3 +25,7 @@ valueOf e = getD e 1 0
 -- the on-list of the clump at a, entry by entry
 abbrev pub listAt : Mem → ℕ → List (List ℕ)
 listAt m a = map (entryAt m) (slots a)
+
+-- the used targets of a list lie in an image of n bytes, at offsets divisible by 8
+abbrev pub InImage : ℕ → List (List ℕ) → Type 0
+InImage n l = (i : ℕ) → i < 3 → (targetOf (getD l i []) ≡ 0 → ⊥) → (targetOf (getD l i []) % wordBytes ≡ 0) × (targetOf (getD l i []) + wordBytes ≤ n)

@@ -20,9 +20,8 @@ use Rattle.laws.specs.Searches.{and-both, seek-split}
 use Rattle.walk.specs.Forms.{offsetOf}
 use Rattle.walk.specs.Scans.{offset-some, offset-inside}
 use Rattle.steps.specs.Acts.{Acts, acts-refused, acts-does, acts-ran, answerIs}
-use Rattle.steps.specs.Loops.{ran-as}
 use Rattle.word.specs.declared.Power.{Power}
-use Rattle.word.specs.Runs.{full, Ran, ran-then}
+use Rattle.word.specs.Runs.{full, Ran, ran-then, ran-as}
 
 -- create's list, below the padding and from it on
 abbrev pub pageStores : ℕ → List Store

@@ -1,6 +1,6 @@
 -- The stores of an on-list that was read: those that carry it out and those that empty it, and that they are the rules'.
 -- Assumes nothing.
-use Prim.Native.Nat.{ℕ, zero, suc, _+_, _*_, _%_, _<_, _≤_}
+use Prim.Native.Nat.{ℕ, zero, suc, _+_, _*_, _<_}
 use mathlib.Core.Path.{_≡_, refl, ap, ap₂}
 use mathlib.Core.Bool.{Bool, true, false, cond, not}
 use mathlib.Core.List.{List, [], _∷_, _++_, map}
@@ -24,10 +24,6 @@ assignsOf (e ∷ es) = cond (eqb (targetOf e) 0) (assignsOf es) (store (targetOf
 unfoldable pub emptiesOf : ℕ → List (List ℕ) → List Store
 emptiesOf s [] = []
 emptiesOf s (e ∷ es) = cond (eqb (targetOf e) 0) (emptiesOf (s + 16) es) (store s 0 ∷ emptiesOf (s + 16) es)
-
--- the used targets of a list lie in an image of n bytes, at offsets divisible by 8
-abbrev pub InImage : ℕ → List (List ℕ) → Type 0
-InImage n l = (i : ℕ) → i < 3 → (targetOf (getD l i []) ≡ 0 → ⊥) → (targetOf (getD l i []) % wordBytes ≡ 0) × (targetOf (getD l i []) + wordBytes ≤ n)
 
 -- they are the rules' stores, of the clump whose list was read: one entry after the other
 assigns-from : (m : Mem) (sl : List ℕ) → assignsOf (map (entryAt m) sl) ≡ map (entry m) (those (isUsed m) sl)

@@ -1,35 +1,33 @@
 -- The stores of free as the code makes them, that they are the rules', and a law for each way out of activate and free.
 -- Assumes nothing.
-use Prim.Native.Nat.{ℕ, zero, suc, _+_, _%_, _<_, _≤_}
+use Prim.Native.Nat.{ℕ, _+_, _%_, _<_, _≤_}
 use mathlib.Core.Path.{_≡_, refl, sym, ap, ap₂, _∙_}
-use mathlib.Core.Bool.{Bool, true, false, cond, _&&_, _||_}
+use mathlib.Core.Bool.{Bool, true, false, cond, _&&_}
 use mathlib.Core.Option.{some, none}
 use mathlib.Core.List.{List, [], _∷_, _++_}
 use native.Mathlib.Omega.{arith}
 use lib.Dec.{eqb, ltb}
-use lib.ListN.{length, getD}
-use borrow.Author.Tests.{eq-eqb, ne-eqb, eqb-true, eqb-false, lt-ltb, ltb-true, ltb-false}
+use lib.ListN.{length}
+use borrow.Author.Tests.{eq-eqb, eqb-true, eqb-false, lt-ltb, ltb-true, ltb-false}
 use Rattle.rules.specs.Lists.{seek}
 use Rattle.rules.specs.Words.{Image, Mem, Store, mem, store, wordBytes, wordValues}
 use Rattle.rules.specs.Pages.{clumpsAt}
 use Rattle.rules.specs.Clumps.{Head, head, endOf, isFree, isWaiting, hasState, stateAt, headerBytes, RESERVED, ACTIVATING, ACTIVE, FREEING, FREE, Tiles, walk}
-use Rattle.rules.specs.Sound.{isValid, allValid}
+use Rattle.rules.specs.Sound.{allValid}
 use Rattle.rules.specs.Answers.{granted, refuse, wrongState, badTarget, answerAt}
 use Rattle.rules.specs.Stores.{finishActivating, finishFreeing, activateStores, dropStores, joinBefore, joinBoth, freeStores}
 use Rattle.rules.specs.Requests.{activate, mayDrop, free}
 use Rattle.rules.specs.Reading.{clumpsOf, Tiled}
 use Rattle.laws.specs.Searches.{and-both, seek-split}
 use Rattle.laws.specs.Walking.{seek-placed}
-use Rattle.laws.specs.Landing.{valid-in}
-use Rattle.page.specs.Forms.{targetOf, listAt}
+use Rattle.page.specs.Forms.{listAt}
 use Rattle.walk.specs.Forms.{offsetOf, listValid}
 use Rattle.walk.specs.Scans.{offset-none, offset-some, offset-inside, list-valid}
 use Rattle.rules.specs.declared.Answer.{Answer}
 use Rattle.word.specs.declared.Power.{Power}
-use Rattle.word.specs.Runs.{full, Ran, ran-then}
+use Rattle.word.specs.Runs.{full, Ran, ran-then, ran-as}
 use Rattle.steps.specs.Acts.{Acts, acts-ran}
-use Rattle.steps.specs.Loops.{ran-as}
-use Rattle.steps.specs.Lists.{assignsOf, emptiesOf, InImage, assigns-are, empties-are}
+use Rattle.steps.specs.Lists.{assignsOf, emptiesOf, assigns-are, empties-are}
 
 -- the stores to the clump itself, by its state and the list that was read
 abbrev pub dropOf : ℕ → ℕ → List (List ℕ) → List Store
@@ -54,15 +52,6 @@ pub record Turned (img : Image) (h state nbytes : ℕ) (l : List (List ℕ)) : T
   pub room : h + nbytes ≤ length img
   pub small : length img < wordValues
   pub valid : state ≡ ACTIVE → listValid (clumpsOf img) l ≡ true
-
-valid-at : (hs : List Head) (l : List (List ℕ)) (i : ℕ) → listValid hs l ≡ true → (targetOf (getD l i []) ≡ 0 → ⊥) → isValid hs (targetOf (getD l i [])) ≡ true
-unfolding listValid
-valid-at hs [] i e h = absurd (h refl)
-valid-at hs (x ∷ l) zero e h = rw (ne-eqb (targetOf x) 0 h) at (and-both (eqb (targetOf x) 0 || isValid hs (targetOf x)) (listValid hs l) e .0)
-valid-at hs (x ∷ l) (suc i) e h = valid-at hs l i (and-both (eqb (targetOf x) 0 || isValid hs (targetOf x)) _ e .1) h
-
-pub list-in : (n : ℕ) (m : Mem) (l : List (List ℕ)) → Tiles clumpsAt (walk n m) n → listValid (walk n m) l ≡ true → InImage n l
-list-in n m l t e i u h = valid-in n m (targetOf (getD l i [])) t (valid-at (walk n m) l i e h)
 
 -- activate, a law for each way out
 module _ (m : Mem) (hs : List Head) (o : ℕ) (h : Head) where

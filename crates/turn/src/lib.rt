@@ -1,23 +1,21 @@
 // Activate and free: the requests that carry out an on-list. Both take any bytes, any numbers and any fuse.
 ghost use mathlib.Core.Path.{_≡_};
 ghost use mathlib.Core.Bool.{cond, true, _&&_};
-ghost use mathlib.Core.List.{[], _∷_, _++_};
 ghost use Prim.Native.Nat.{_+_, _%_, _≤_, _<_};
 ghost use lib.ListN.{length};
 ghost use lib.Dec.{eqb};
 ghost use Rattle.rules.specs.declared.Request.the-variants.{Activate, Free};
 ghost use Rattle.rules.specs.Lists.{seek};
-ghost use Rattle.rules.specs.Words.{wordBytes, wordValues, mem, store};
-ghost use Rattle.rules.specs.Clumps.{head, headerBytes, isFree, endOf, stateAt, ACTIVE, FREEING, FREE};
+ghost use Rattle.rules.specs.Words.{wordBytes, wordValues, mem};
+ghost use Rattle.rules.specs.Clumps.{head, headerBytes, isFree, endOf, ACTIVE, FREE};
 ghost use Rattle.rules.specs.Answers.{granted};
 ghost use Rattle.rules.specs.Stores.{freeStores};
 ghost use Rattle.rules.specs.Requests.{activate, free, Does};
 ghost use Rattle.rules.specs.Reading.{clumpsOf, Tiled};
 ghost use Rattle.word.specs.Runs.{Ran};
-ghost use Rattle.page.specs.Forms.{listAt};
+ghost use Rattle.page.specs.Forms.{InImage};
 ghost use Rattle.walk.specs.Forms.{offsetOf, listValid};
 ghost use Rattle.steps.specs.Acts.{Acts};
-ghost use Rattle.steps.specs.Lists.{assignsOf, InImage};
 ghost use Rattle.turn.specs.Turns.{dropOf, storeIf, bytesAt, Turned};
 use page::CLUMPS_AT;
 use page::clump::Clump;

@@ -1,6 +1,6 @@
 -- Laws of the searches over the clumps: need against nbytes without computing need, a word in a part without a sum, and the
 -- searches' answers at the end, at a hit and past a clump. Assumes nothing.
-use Prim.Native.Nat.{ℕ, _+_, _-_, _*_, _/_, _<_, _≤_}
+use Prim.Native.Nat.{ℕ, zero, suc, _+_, _-_, _*_, _/_, _<_, _≤_}
 use mathlib.Core.Path.{_≡_, refl, sym, ap, _∙_}
 use mathlib.Core.List.{List, [], _∷_, map}
 use mathlib.Core.Bool.{Bool, true, false, cond, not, _&&_, _||_}
@@ -10,7 +10,7 @@ use native.Mathlib.Numerals.{add-one}
 use lib.ListN.{length, getD, drop, drop-of-length-le}
 use lib.Seq.{drop-cons}
 use lib.Dec.{leb, eqb}
-use borrow.Author.Tests.{lt-leb, le-leb}
+use borrow.Author.Tests.{lt-leb, le-leb, ne-eqb}
 use Rattle.rules.specs.Lists.{seek, those, all}
 use Rattle.rules.specs.Words.{Mem}
 use Rattle.rules.specs.Pages.{clumpsAt}
@@ -19,9 +19,11 @@ use Rattle.rules.specs.Sound.{lies, isValid, allValid}
 use Rattle.rules.specs.Stores.{needOf}
 use Rattle.rules.specs.Requests.{finder}
 use Rattle.word.specs.Tests.{leb-same}
+use Rattle.laws.specs.Searches.{and-both}
 use Rattle.laws.specs.Walking.{Inside, seek-placed}
+use Rattle.laws.specs.Landing.{valid-in}
 use Rattle.walk.specs.Forms.{offsetOf, foundOf, listValid}
-use Rattle.page.specs.Forms.{entryAt, targetOf, listAt}
+use Rattle.page.specs.Forms.{entryAt, targetOf, listAt, InImage}
 use Rattle.walk.specs.declared.Found.{Found}
 use Rattle.walk.specs.declared.Found.the-variants.{At, Nothing}
 
@@ -120,3 +122,13 @@ module _ (hs : List Head) (l : List (List ℕ)) (i : ℕ) (u : i < length l) (w 
 pub valid-end : (hs : List Head) (l : List (List ℕ)) (i : ℕ) → length l ≤ i → listValid hs (drop i l) ≡ listValid hs l → true ≡ listValid hs l
 unfolding listValid
 valid-end hs l i u w = rw (drop-of-length-le l u) at w
+
+-- the used targets of a valid list lie in the image
+valid-at : (hs : List Head) (l : List (List ℕ)) (i : ℕ) → listValid hs l ≡ true → (targetOf (getD l i []) ≡ 0 → ⊥) → isValid hs (targetOf (getD l i [])) ≡ true
+unfolding listValid
+valid-at hs [] i e h = absurd (h refl)
+valid-at hs (x ∷ l) zero e h = rw (ne-eqb (targetOf x) 0 h) at (and-both (eqb (targetOf x) 0 || isValid hs (targetOf x)) (listValid hs l) e .0)
+valid-at hs (x ∷ l) (suc i) e h = valid-at hs l i (and-both (eqb (targetOf x) 0 || isValid hs (targetOf x)) _ e .1) h
+
+pub list-in : (n : ℕ) (m : Mem) (l : List (List ℕ)) → Tiles clumpsAt (walk n m) n → listValid (walk n m) l ≡ true → InImage n l
+list-in n m l t e i u h = valid-in n m (targetOf (getD l i [])) t (valid-at (walk n m) l i e h)

@@ -1,5 +1,6 @@
 -- `release`: the clumps beside are found before the first store; then three runs, one after the other. Assumes nothing.
-use Rattle.turn.specs.Turns.{release-acts, startsAt, belowOf, beside-inside, beside-found, next-room, under-room, list-in}
+use Rattle.turn.specs.Turns.{release-acts, startsAt, belowOf, beside-inside, beside-found, next-room, under-room}
+use Rattle.walk.specs.Scans.{list-in}
 use native.Mathlib.Omega.{arith}
 use Prim.Native.Nat.{_+_}
 use mathlib.Core.Path.{_∙_}

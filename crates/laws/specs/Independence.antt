@@ -16,7 +16,7 @@ use Rattle.rules.specs.Reading.{clumpsOf, within, hidden}
 use Rattle.rules.specs.Demands.{Alike, Independent}
 use Rattle.rules.specs.declared.Request.the-variants.{Check}
 use Rattle.word.specs.Memory.{mem-same}
-use Rattle.laws.specs.Searches.{each-map}
+use Rattle.laws.specs.Searches.{each-map, each-both}
 use Rattle.laws.specs.Headers.{AgreeAt, Agree, AgreePage, walk-same, verdict-same}
 
 -- the byte at j lies in no body of hs
@@ -59,10 +59,6 @@ above-all (suc k) n a m = go (ltb a n) (above-all k n (a + m a) m)
     go : (t : Bool) → Each (λ h. a + m a ≤ h .at) (headsFrom k n m (a + m a)) → Each (λ (h : Head). a ≤ h .at) (elim t [ true ↦ head m a ∷ headsFrom k n m (a + m a) | false ↦ [] ])
     go true f = (omega arith, each-map (λ h. a + m a ≤ h .at) (λ h. a ≤ h .at) (headsFrom k n m (a + m a)) (λ h l. omega arith) f)
     go false f = tt
-
-each-both : (P Q : Head → Type 0) (hs : List Head) → Each P hs → Each Q hs → Each (λ h. P h × Q h) hs
-each-both P Q [] f g = tt
-each-both P Q (h ∷ hs) f g = ((f .0, g .0), each-both P Q hs (f .1) (g .1))
 
 bare-headers : (k n a : ℕ) (m : Mem) → Each (BareHeader (headsFrom k n m a)) (headsFrom k n m a)
 unfolding headsFrom

@@ -17,11 +17,11 @@ use Rattle.rules.specs.Pages.{clumpsAt, staticAt, staticEnd, pageBytes, headerA
 use Rattle.rules.specs.Clumps.{Head, bodyOf, endOf, isFree, isLive, isWaiting, isPending, isEmpty, isUsed, slots, usedSlots, valueAt, entry, entries, stateAt, hasState, headerBytes, leastClump, FREE, RESERVED, ACTIVATING, ACTIVE, FREEING, Sits, Tiles, walk}
 use Rattle.rules.specs.Sound.{isEven, lies, holdsWord, isValid, allValid}
 use Rattle.rules.specs.Answers.{storesOf, notPool, sizeZero, wrongState, badTarget, bytesOf}
-use Rattle.rules.specs.Stores.{emptying, setState, createStores, needOf, fits, leastRest, reserveStores, lastOf, finishActivating, finishFreeing, activateStores, dropStores, freeAfter, freeBefore, joinBefore, joinBoth, freeStores, finishing, releasing, released, Run, inFront, runs, joinRun, joining, recoverStores}
+use Rattle.rules.specs.Stores.{emptying, setState, createStores, needOf, fits, leastRest, reserveStores, finishActivating, finishFreeing, activateStores, dropStores, freeAfter, freeBefore, joinBefore, joinBoth, freeStores, finishing, releasing, released, Run, inFront, runs, joinRun, joining, recoverStores}
 use Rattle.rules.specs.Requests.{Numbers, placed, reserve, finder, listed, enlist, withdrawn, withdraw, activate, mayDrop, free, verdict}
 use Rattle.rules.specs.Demands.{OneWord}
 use Rattle.word.specs.Memory.{mem-bound}
-use Rattle.laws.specs.Searches.{those-each, and-both, any-each, seek-each, seek-split, each-append, each-map}
+use Rattle.laws.specs.Searches.{those-each, and-both, any-each, seek-each, seek-split, each-append, each-map, last-each}
 use Rattle.laws.specs.Tilings.{tiles-le}
 use Rattle.laws.specs.Walks.{sound-tiles, no-faults}
 use Rattle.laws.specs.Walking.{Placed, all-placed, seek-placed}
@@ -90,10 +90,6 @@ used-land n m h l = those-each (Slot n) (isUsed m) (slots (h .at)) (slots-land n
 emptying-land : (n : ℕ) (sl : List ℕ) → Each (Slot n) sl → Land n (emptying sl)
 emptying-land n [] f = tt
 emptying-land n (s ∷ sl) f = let e = f .0 .0 in let l = f .0 .1 in (record { even = e; inside = omega arith; small = omega arith }, emptying-land n sl (f .1))
-
-pub last-each : (P : ℕ → Type 0) (s : ℕ) (sl : List ℕ) → P s → Each P sl → P (lastOf s sl)
-last-each P s [] e f = e
-last-each P s (t ∷ sl) e f = last-each P t sl (f .0) (f .1)
 
 -- the assignments of a list whose targets are valid
 entries-land : (n : ℕ) (m : Mem) (sl : List ℕ) → ((o : ℕ) → m o < wordValues) → Tiles clumpsAt (walk n m) n → all (λ s. isValid (walk n m) (m s)) sl ≡ true → Land n (map (entry m) sl)

@@ -7,14 +7,14 @@ use mathlib.Core.Option.{Option, some, none}
 use mathlib.Core.List.{List, [], _∷_, _++_, map}
 use native.Mathlib.Omega.{arith}
 use lib.Dec.{eqb}
-use Rattle.rules.specs.Lists.{seek, those, all, Each}
+use Rattle.rules.specs.Lists.{seek, those, Each}
 use Rattle.rules.specs.Words.{Mem, upd, after}
 use Rattle.rules.specs.Pages.{clumpsAt}
 use Rattle.rules.specs.Clumps.{Head, Tiles, stateAt, hasState, isPending, isUsed, slots, usedSlots, entry, entries, FREE, RESERVED, ACTIVATING, ACTIVE, FREEING}
 use Rattle.rules.specs.Sound.{faultAt, second, secondFault, isValid, allValid, targetFault}
 use Rattle.rules.specs.Stores.{setState, emptying, finishActivating, finishFreeing, finishing, releasing, released}
 use Rattle.word.specs.Memory.{upd-same, upd-other, after-append}
-use Rattle.laws.specs.Searches.{some-none, or-neither, and-both, Split, seek-split, seek-none}
+use Rattle.laws.specs.Searches.{some-none, or-neither, Split, seek-split, seek-none, all-each, those-nil, nil-those, those-append}
 use Rattle.laws.specs.Totals.{five}
 use Rattle.laws.specs.Walks.{Reads}
 use Rattle.laws.specs.Stored.{withState, Clear, clear-below, clear-header, reads-upd, reads-after, reads-state, valid-clear}
@@ -70,27 +70,13 @@ map-split [] h q e f = ap (λ (ks : List Head). settle h ∷ ks) (map-idle q f)
 map-split (k ∷ p) h q e f = ap₂ _∷_ (settle-idle k (e .0)) (map-split p h q (e .1) f)
 
 -- the one unfinished clump: no other is
-those-pass : (p q : List Head) → Each (λ k. isPending k ≡ false) p → those isPending (p ++ q) ≡ those isPending q
-unfolding those
-those-pass [] q e = refl
-those-pass (k ∷ p) q e = rw (e .0) (those-pass p q (e .1))
-
-those-none : (hs : List Head) → those isPending hs ≡ [] → Each (λ k. isPending k ≡ false) hs
-unfolding those
-those-none [] e = tt
-those-none (h ∷ hs) e = go (isPending h) refl e (those-none hs)
-  where
-    go : (t : Bool) → isPending h ≡ t → cond t (h ∷ those isPending hs) (those isPending hs) ≡ [] → (those isPending hs ≡ [] → Each (λ k. isPending k ≡ false) hs) → Each (λ k. isPending k ≡ false) (h ∷ hs)
-    go true q f ih = absurd (let z : _≡_ {A = ℕ} 0 1 = cc in omega arith)
-    go false q f ih = (q, ih f)
-
 second-none : (h : Head) (ks : List Head) → second (h ∷ ks) ≡ none → ks ≡ []
 second-none h [] e = refl
 second-none h (k ∷ ks) e = some-none refl e
 
 pub others-idle : (p : List Head) (h : Head) (q : List Head) → secondFault (p ++ (h ∷ q)) ≡ none → Each (λ k. isPending k ≡ false) p → isPending h ≡ true → Each (λ k. isPending k ≡ false) q
 unfolding secondFault those
-others-idle p h q e f g = those-none q (second-none h (those isPending q) (rw (those-pass p (h ∷ q) f, g) at e))
+others-idle p h q e f g = nil-those isPending q (second-none h (those isPending q) (rw (those-append isPending p (h ∷ q), those-nil isPending p f, g) at e))
 
 -- the targets that are carried out miss the headers
 pub targets-valid : (m : Mem) (hs : List Head) (h : Head) → seek isPending hs ≡ some h → targetFault m hs ≡ none → allValid m hs h ≡ true
@@ -100,11 +86,6 @@ targets-valid m hs h e f = go (allValid m hs h) refl (rw e at f)
     go : (t : Bool) → allValid m hs h ≡ t → cond t none (some (faultAt 5 h)) ≡ none → allValid m hs h ≡ true
     go true q g = q
     go false q g = some-none refl g
-
-pub all-each : (q : ℕ → Bool) (sl : List ℕ) → all q sl ≡ true → Each (λ s. q s ≡ true) sl
-unfolding all
-all-each q [] e = tt
-all-each q (s ∷ sl) e = let x = and-both (q s) (all q sl) e in (x .0, all-each q sl (x .1))
 
 entries-clear : (n : ℕ) (m : Mem) (hs : List Head) (sl : List ℕ) → Tiles clumpsAt hs n → Each (λ s. isValid hs (m s) ≡ true) sl → Each (λ s. Clear (s .to) hs) (map (entry m) sl)
 entries-clear n m hs [] t e = tt

@@ -1,7 +1,7 @@
 -- What a request leaves alone: a byte of the static area or of a live body lies in no header and in no FREE clump, and the stores of a
 -- request go into headers, into the FREE clump that is split, or to the words that the list names. By cases on the requests.
 -- Assumes nothing.
-use Prim.Native.Nat.{ℕ, zero, suc, _+_, _-_, _<_, _≤_}
+use Prim.Native.Nat.{ℕ, _+_, _-_, _<_, _≤_}
 use mathlib.Core.Path.{_≡_, refl, subst, _∙_}
 use mathlib.Core.Bool.{Bool, true, false, not, cond, _&&_, _||_}
 use mathlib.Core.Logic.{_⊎_, inl, inr, ⊎-elim}
@@ -18,9 +18,9 @@ use Rattle.rules.specs.Clumps.{Head, bodyOf, endOf, headerBytes, leastClump, sl
 use Rattle.rules.specs.Stores.{emptying, setState, needOf, fits, leastRest, reserveStores, lastOf, finishActivating, finishFreeing, activateStores, dropStores, freeAfter, freeBefore, joinBefore, joinBoth, freeStores, finishing, releasing, released, Run, inFront, runs, joinRun, joining, recoverStores}
 use Rattle.rules.specs.Reading.{within, inPart}
 use Rattle.word.specs.Memory.{byte-put}
-use Rattle.laws.specs.Searches.{those-each, differ, and-both, or-neither, each-append, seek-each, seek-split}
+use Rattle.laws.specs.Searches.{those-each, differ, and-both, or-neither, each-append, each-take, last-each, seek-each, seek-split}
 use Rattle.laws.specs.Behind.{behind-test, behind-sound, behind-settled, behind-found}
-use Rattle.laws.specs.Landing.{last-each, found-lies, tiles}
+use Rattle.laws.specs.Landing.{found-lies, tiles}
 use Rattle.laws.specs.Pools.{Sound}
 use Rattle.rules.specs.declared.Request.{Request}
 use Rattle.rules.specs.declared.Request.the-variants.{Create, Reserve, Onactive, Onfree, Withdraw, Activate, Free, Check, Recover}
@@ -38,11 +38,6 @@ pub carry-miss : (img : Image) (st : List Store) (i : ℕ) → Each (Miss i) st 
 unfolding carry
 carry-miss img [] i f = refl
 carry-miss img (s ∷ st) i f = carry-miss (put img (s .to) (s .word)) st i (f .1) ∙ byte-put img (s .to) (s .word) i (f .0)
-
-pub each-take : {A : Type 0} (P : A → Type 0) (k : ℕ) (xs : List A) → Each P xs → Each P (take k xs)
-each-take P zero xs f = tt
-each-take P (suc k) [] f = tt
-each-take P (suc k) (x ∷ xs) f = (f .0, each-take P k xs (f .1))
 
 -- the byte at i lies outside the header of h, and outside all of h if h is FREE
 pub record Off (i : ℕ) (h : Head) : Type 0 where

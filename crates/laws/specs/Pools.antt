@@ -1,17 +1,28 @@
--- What a granted request tells of the image: each test before it failed. By cases on the tests. Assumes nothing.
+-- What a granted request tells of the image: each test before it failed. By cases on the tests; with what an answer without a store is.
+-- Assumes nothing.
 use Prim.Native.Nat.{ℕ, _%_, _≤_}
 use mathlib.Core.Path.{_≡_, refl}
 use mathlib.Core.Bool.{Bool, true, false, not}
 use mathlib.Core.Option.{Option, some, none}
 use mathlib.Core.List.{List, []}
 use native.Mathlib.Omega.{arith}
-use borrow.Author.Tests.{leb-true, eqb-true, not-false}
+use lib.Seq.{take-nil}
+use borrow.Author.Tests.{leb-true, le-ltb, eqb-true, not-false}
+use Rattle.rules.specs.declared.Answer.{Answer}
 use Rattle.rules.specs.Words.{Mem, Store}
 use Rattle.rules.specs.Pages.{leastLength, mostLength, unit, rightLength, isPool}
 use Rattle.rules.specs.Clumps.{walk}
 use Rattle.rules.specs.Sound.{Fault, judge, unsettled}
 use Rattle.rules.specs.Answers.{done, notPool, answerOf, Verdict, refused, granted, test, testFault, ifSound, ifSettled}
 use Rattle.laws.specs.Searches.{and-both}
+
+-- an answer without a store, and the one of a grant that has none
+abbrev pub answerIs : ℕ → ℕ → ℕ → Answer
+answerIs a p f = record { answer = a; place = p; fault = f; stores = 0 }
+
+pub granted-none : (fuse : ℕ) → answerIs 0 0 0 ≡ answerOf fuse (granted 0 [])
+unfolding answerOf
+granted-none fuse = rw (le-ltb fuse 0 (omega arith), take-nil fuse)
 
 -- a refusal is no grant
 pub never-granted {ℓ} : {B : Type ℓ} {a q f p : ℕ} {st : List Store} → refused a q f ≡ granted p st → B

@@ -17,9 +17,10 @@ use Rattle.rules.specs.Answers.{granted, refuse, notPool, sizeZero, noRoom, ans
 use Rattle.rules.specs.Stores.{createStores, needOf, fits, emptying, leastRest, reserveStores}
 use Rattle.rules.specs.Requests.{Does, reserve, verdict}
 use Rattle.laws.specs.Searches.{and-both, seek-split}
+use Rattle.laws.specs.Pools.{answerIs}
 use Rattle.walk.specs.Forms.{offsetOf}
 use Rattle.walk.specs.Scans.{offset-some, offset-inside}
-use Rattle.steps.specs.Acts.{Acts, acts-refused, acts-does, acts-ran, answerIs}
+use Rattle.steps.specs.Acts.{Acts, acts-refused, acts-does, acts-ran}
 use Rattle.word.specs.declared.Power.{Power}
 use Rattle.word.specs.Runs.{full, Ran, ran-then, ran-as}
 

@@ -8,7 +8,6 @@ use mathlib.Core.List.{List, []}
 use native.Mathlib.Omega.{arith}
 use lib.ListN.{length, take}
 use lib.Seq.{take-nil}
-use borrow.Author.Tests.{le-ltb}
 use Rattle.rules.specs.declared.Answer.{Answer}
 use Rattle.rules.specs.declared.Request.{Request}
 use Rattle.rules.specs.Words.{Image, Store, mem, carry}
@@ -19,12 +18,9 @@ use Rattle.rules.specs.Answers.{Verdict, refused, granted, refuse, noClump, tes
 use Rattle.rules.specs.Requests.{verdictOn, Does, finder, found}
 use Rattle.rules.specs.Reading.{clumpsOf, Tiled}
 use Rattle.laws.specs.Walks.{sound-tiles}
-use Rattle.laws.specs.Pools.{Sound, RightLength, pool-length}
+use Rattle.laws.specs.Pools.{answerIs, granted-none, Sound, RightLength, pool-length}
 use Rattle.word.specs.declared.Power.{Power}
 use Rattle.word.specs.Runs.{full, Ran, ran-answer}
-
-abbrev pub answerIs : ℕ → ℕ → ℕ → Answer
-answerIs a p f = record { answer = a; place = p; fault = f; stores = 0 }
 
 -- from the image before, under a fuse, the verdict v leads to the image x and the answer r
 pub record Acts (before : Image) (v : Verdict) (fuse : ℕ) (x : Image) (r : Answer) : Type 0 where
@@ -50,10 +46,6 @@ pub acts-ran :
     {img x : Image} {q : Power} {st : List Store} {r : Answer} (fuse place : ℕ)
     → Ran img (full fuse) st x q → r ≡ answerAt (q .cut) place (q .made) → Acts img (granted place st) fuse x r
 acts-ran fuse place s e = record { answered = e ∙ ran-answer fuse place s; stored = s .image }
-
-granted-none : (fuse : ℕ) → answerIs 0 0 0 ≡ answerOf fuse (granted 0 [])
-unfolding answerOf
-granted-none fuse = rw (le-ltb fuse 0 (omega arith), take-nil fuse)
 
 -- behind the tests 1 and 2
 module _ (img : Image) (r : Answer) (e : (fuse : ℕ) → r ≡ answerOf fuse (ifSound (length img) (mem img) (granted 0 []))) where

@@ -23,11 +23,11 @@ use Rattle.rules.specs.Demands.{OneWord}
 use Rattle.word.specs.Memory.{mem-bound}
 use Rattle.laws.specs.Searches.{those-each, and-both, any-each, seek-each, seek-split, each-append, each-map, last-each}
 use Rattle.laws.specs.Tilings.{tiles-le}
-use Rattle.laws.specs.Walks.{sound-tiles, no-faults}
+use Rattle.laws.specs.Walks.{no-faults}
 use Rattle.laws.specs.Walking.{Placed, all-placed, seek-placed}
 use Rattle.laws.specs.Mending.{settle, targets-valid, map-released, tiles-settle, tiles-freed}
 use Rattle.laws.specs.Behind.{behind-test, behind-sound, behind-settled, behind-found}
-use Rattle.laws.specs.Pools.{Sound, RightLength, right-length, pool-length}
+use Rattle.laws.specs.Pools.{Sound, RightLength, right-length, pool-length, pool-tiles}
 
 -- a valid target lies in the image, at an offset divisible by 8
 pub valid-in : (n : ℕ) (m : Mem) (t : ℕ) → Tiles clumpsAt (walk n m) n → isValid (walk n m) t ≡ true → (t % wordBytes ≡ 0) × (t + wordBytes ≤ n)
@@ -230,11 +230,8 @@ module _ (n : ℕ) (m : Mem) (s : Sound n m) where
   small : n < wordValues
   small = omega (arith, pool-length n m (s .pool) .most)
 
-  pub tiles : Tiles clumpsAt (walk n m) n
-  tiles = sound-tiles n m (omega (arith, pool-length n m (s .pool) .least)) (s .sound)
-
   pub found-lies : (p : Head → Bool) (h : Head) → seek p (walk n m) ≡ some h → Lies n h
-  found-lies p h e = placed-lies n m h small (seek-placed n m p h tiles e)
+  found-lies p h e = placed-lies n m h small (seek-placed n m p h (pool-tiles n m s) e)
 
 -- each request, on a sound pool of n bytes
 module _ (n : ℕ) (m : Mem) (b : (o : ℕ) → m o < wordValues) (s : Sound n m) where
@@ -259,14 +256,14 @@ module _ (n : ℕ) (m : Mem) (b : (o : ℕ) → m o < wordValues) (s : Sound n m
   activate-land p h l =
       behind-test (Land n) tt (not (hasState RESERVED h)) wrongState _
       (λ z. behind-test (Land n) tt (not (allValid m (walk n m) h)) badTarget _
-      (λ q. (land-state n h ACTIVATING l (omega arith), activated-land n m b (tiles n m s) h l (not-false _ q))))
+      (λ q. (land-state n h ACTIVATING l (omega arith), activated-land n m b (pool-tiles n m s) h l (not-false _ q))))
 
   drop-land : (h : Head) → Lies n h → mayDrop m (walk n m) h ≡ true → Land n (dropStores m h)
   unfolding dropStores
   drop-land h l q = go (hasState ACTIVE h) q
     where
       go : (c : Bool) → cond c (allValid m (walk n m) h) true ≡ true → Land n (cond c (setState h FREEING ∷ finishFreeing m h) (setState h FREE ∷ []))
-      go true v = (land-state n h FREEING l (omega arith), freed-land n m b (tiles n m s) h l v)
+      go true v = (land-state n h FREEING l (omega arith), freed-land n m b (pool-tiles n m s) h l v)
       go false v = (land-state n h FREE l (omega arith), tt)
 
   free-land : (p : ℕ) (h : Head) → Lies n h → Land n (storesOf (free m (walk n m) p h))
@@ -287,8 +284,8 @@ module _ (n : ℕ) (m : Mem) (b : (o : ℕ) → m o < wordValues) (s : Sound n m
       go l v (hasState ACTIVATING h)
     where
       go : Lies n h → allValid m (walk n m) h ≡ true → (c : Bool) → Land n (cond c (finishActivating m h) (finishFreeing m h))
-      go l v true = activated-land n m b (tiles n m s) h l v
-      go l v false = freed-land n m b (tiles n m s) h l v
+      go l v true = activated-land n m b (pool-tiles n m s) h l v
+      go l v false = freed-land n m b (pool-tiles n m s) h l v
 
   recover-land : Land n (recoverStores m (walk n m))
   unfolding recoverStores releasing
@@ -297,10 +294,10 @@ module _ (n : ℕ) (m : Mem) (b : (o : ℕ) → m o < wordValues) (s : Sound n m
       (finishing-land (seek isPending (walk n m)) refl)
       (each-append (Aligned n) (releasing (walk n m)) (joining (runs (map released (walk n m))))
       (releases-land n (those (hasState RESERVED) (walk n m))
-      (those-each (Lies n) (hasState RESERVED) (walk n m) (each-map (Placed n m) (Lies n) (walk n m) (λ h p. placed-lies n m h (small n m s) p) (all-placed n m (tiles n m s)))))
+      (those-each (Lies n) (hasState RESERVED) (walk n m) (each-map (Placed n m) (Lies n) (walk n m) (λ h p. placed-lies n m h (small n m s) p) (all-placed n m (pool-tiles n m s)))))
       (joining-land n clumpsAt n (runs (map released (walk n m))) (small n m s) (omega arith)
       (runs-tile clumpsAt n (map released (walk n m))
-      (subst (λ (ks : List Head). Tiles clumpsAt ks n) (map-released clumpsAt n (walk n m) (tiles n m s)) (tiles-freed clumpsAt n (map settle (walk n m)) (tiles-settle clumpsAt n (walk n m) (tiles n m s))))
+      (subst (λ (ks : List Head). Tiles clumpsAt ks n) (map-released clumpsAt n (walk n m) (pool-tiles n m s)) (tiles-freed clumpsAt n (map settle (walk n m)) (tiles-settle clumpsAt n (walk n m) (pool-tiles n m s))))
       refl)))
 
 -- create

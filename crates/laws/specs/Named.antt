@@ -20,8 +20,8 @@ use Rattle.rules.specs.Reading.{within, inPart}
 use Rattle.word.specs.Memory.{byte-put}
 use Rattle.laws.specs.Searches.{those-each, differ, and-both, or-neither, each-append, each-take, last-each, seek-each, seek-split}
 use Rattle.laws.specs.Behind.{behind-test, behind-sound, behind-settled, behind-found}
-use Rattle.laws.specs.Landing.{found-lies, tiles}
-use Rattle.laws.specs.Pools.{Sound}
+use Rattle.laws.specs.Landing.{found-lies}
+use Rattle.laws.specs.Pools.{Sound, pool-tiles}
 use Rattle.rules.specs.declared.Request.{Request}
 use Rattle.rules.specs.declared.Request.the-variants.{Create, Reserve, Onactive, Onfree, Withdraw, Activate, Free, Check, Recover}
 use Rattle.rules.specs.Sound.{isValid, allValid}
@@ -293,26 +293,26 @@ unfolding verdict reserve
 misses n i m Create c p u = differ refl c
 misses n i m (Reserve size) c p u =
     behind-settled (Each (Miss i)) tt n m _
-    (λ s c. behind-test (Each (Miss i)) tt (eqb size 0) sizeZero _ (λ z. placed-miss n i m (off n i (walk n m) (tiles n m s) p) s (needOf size) (seek (fits (needOf size)) (walk n m)) refl))
+    (λ s c. behind-test (Each (Miss i)) tt (eqb size 0) sizeZero _ (λ z. placed-miss n i m (off n i (walk n m) (pool-tiles n m s) p) s (needOf size) (seek (fits (needOf size)) (walk n m)) refl))
 misses n i m (Onactive o t v) c p u =
     behind-settled (Each (Miss i)) tt n m _
-    (λ s c. let f = off n i (walk n m) (tiles n m s) p in behind-found (Each (Miss i)) tt (finder (walk n m) o) _ (λ h e. enlist-miss n i m f RESERVED o t v h (found-off n i m f _ h e)))
+    (λ s c. let f = off n i (walk n m) (pool-tiles n m s) p in behind-found (Each (Miss i)) tt (finder (walk n m) o) _ (λ h e. enlist-miss n i m f RESERVED o t v h (found-off n i m f _ h e)))
 misses n i m (Onfree o t v) c p u =
     behind-settled (Each (Miss i)) tt n m _
-    (λ s c. let f = off n i (walk n m) (tiles n m s) p in behind-found (Each (Miss i)) tt (finder (walk n m) o) _ (λ h e. enlist-miss n i m f ACTIVE o t v h (found-off n i m f _ h e)))
+    (λ s c. let f = off n i (walk n m) (pool-tiles n m s) p in behind-found (Each (Miss i)) tt (finder (walk n m) o) _ (λ h e. enlist-miss n i m f ACTIVE o t v h (found-off n i m f _ h e)))
 misses n i m (Withdraw o) c p u =
     behind-settled (Each (Miss i)) tt n m _
-    (λ s c. let f = off n i (walk n m) (tiles n m s) p in behind-found (Each (Miss i)) tt (finder (walk n m) o) _ (λ h e. withdraw-miss n i m f o h (found-off n i m f _ h e)))
+    (λ s c. let f = off n i (walk n m) (pool-tiles n m s) p in behind-found (Each (Miss i)) tt (finder (walk n m) o) _ (λ h e. withdraw-miss n i m f o h (found-off n i m f _ h e)))
 misses n i m (Activate o) c p u =
     behind-settled (Each (Miss i)) tt n m _
-    (λ s c. let f = off n i (walk n m) (tiles n m s) p in
+    (λ s c. let f = off n i (walk n m) (pool-tiles n m s) p in
     behind-found (Each (Miss i)) tt (finder (walk n m) o) _ (λ h e. activate-miss n i m f o h (found-off n i m f _ h e) (entriesIf-some n i m f RESERVED (finder (walk n m) o) h e u)))
 misses n i m (Free o) c p u =
     behind-settled (Each (Miss i)) tt n m _
-    (λ s c. let f = off n i (walk n m) (tiles n m s) p in
+    (λ s c. let f = off n i (walk n m) (pool-tiles n m s) p in
     behind-found (Each (Miss i)) tt (finder (walk n m) o) _ (λ h e. free-miss n i m f o h (found-off n i m f _ h e) (entriesIf-some n i m f ACTIVE (finder (walk n m) o) h e u)))
 misses n i m Check c p u = behind-sound (Each (Miss i)) tt n m _ (λ s. tt)
-misses n i m Recover c p u = behind-sound (Each (Miss i)) tt n m _ (λ s. recover-miss n i m (off n i (walk n m) (tiles n m s) p) u)
+misses n i m Recover c p u = behind-sound (Each (Miss i)) tt n m _ (λ s. recover-miss n i m (off n i (walk n m) (pool-tiles n m s) p) u)
 
 pub only-named : OnlyNamed
 only-named img q fuse i c p u = carry-miss img (take fuse (storesFor img q)) i (each-take (Miss i) fuse (storesFor img q) (misses (length img) i (mem img) q c p u))

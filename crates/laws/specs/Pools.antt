@@ -10,11 +10,12 @@ use lib.Seq.{take-nil}
 use borrow.Author.Tests.{leb-true, le-ltb, eqb-true, not-false}
 use Rattle.rules.specs.declared.Answer.{Answer}
 use Rattle.rules.specs.Words.{Mem, Store}
-use Rattle.rules.specs.Pages.{leastLength, mostLength, unit, rightLength, isPool}
-use Rattle.rules.specs.Clumps.{walk}
+use Rattle.rules.specs.Pages.{clumpsAt, leastLength, mostLength, unit, rightLength, isPool}
+use Rattle.rules.specs.Clumps.{Tiles, walk}
 use Rattle.rules.specs.Sound.{Fault, judge, unsettled}
 use Rattle.rules.specs.Answers.{done, notPool, answerOf, Verdict, refused, granted, test, testFault, ifSound, ifSettled}
 use Rattle.laws.specs.Searches.{and-both}
+use Rattle.laws.specs.Walks.{sound-tiles}
 
 -- an answer without a store, and the one of a grant that has none
 abbrev pub answerIs : ℕ → ℕ → ℕ → Answer
@@ -61,6 +62,10 @@ fault-granted (some f) p v st e = never-granted e
 pub record Sound (n : ℕ) (m : Mem) : Type 0 where
   pub pool : isPool n m ≡ true
   pub sound : judge n m ≡ none
+
+-- a sound pool's clumps tile
+pub pool-tiles : (n : ℕ) (m : Mem) → Sound n m → Tiles clumpsAt (walk n m) n
+pool-tiles n m s = sound-tiles n m (omega (arith, pool-length n m (s .pool) .least)) (s .sound)
 
 pub sound-granted : (n : ℕ) (m : Mem) (p : ℕ) (v : Verdict) (st : List Store) → ifSound n m v ≡ granted p st → Sound n m × (v ≡ granted p st)
 unfolding ifSound

@@ -5,7 +5,6 @@ use mathlib.Core.Path.{_≡_, refl, sym, ap, _∙_}
 use mathlib.Core.Bool.{true, false}
 use mathlib.Core.Option.{some, none}
 use mathlib.Core.List.{List, [], _∷_, _++_, map, append-assoc}
-use native.Mathlib.Omega.{arith}
 use lib.ListN.{length}
 use borrow.Author.Tests.{eq-eqb, ne-eqb}
 use Rattle.rules.specs.declared.Answer.{Answer}
@@ -21,8 +20,8 @@ use Rattle.rules.specs.Requests.{Does, verdict}
 use Rattle.rules.specs.Reading.{clumpsOf, Tiled}
 use Rattle.word.specs.declared.Power.{Power}
 use Rattle.word.specs.Runs.{full, Ran, ran-then, ran-as, ran-whole, ran-cut}
-use Rattle.laws.specs.Walks.{walk-reads, walk-is, sound-tiles, no-faults}
-use Rattle.laws.specs.Pools.{Sound, pool-length}
+use Rattle.laws.specs.Walks.{walk-reads, walk-is, no-faults}
+use Rattle.laws.specs.Pools.{Sound, pool-tiles}
 use Rattle.laws.specs.Mending.{settle, freed, map-released, tiles-settle, tiles-freed, finish-reads, release-reads, releasing-settle}
 use Rattle.page.specs.Forms.{listAt}
 use Rattle.steps.specs.Lists.{assignsOf, emptiesOf, assigns-are, empties-are}
@@ -44,10 +43,7 @@ module _ (m : Mem) (hs : List Head) where
 
 module _ (img : Image) (s : Sound (length img) (mem img)) where
   tiled : Tiled img
-  tiled = let l = pool-length (length img) (mem img) (s .pool) in sound-tiles (length img) (mem img) (omega arith) (s .sound)
-
-  pub sound-tiled : Tiled img
-  sound-tiled = tiled
+  tiled = pool-tiles (length img) (mem img) s
 
   pub sound-targets : targetFault (mem img) (clumpsOf img) ≡ none
   sound-targets = no-faults (length img) (mem img) (s .sound) .targets

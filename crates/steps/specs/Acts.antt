@@ -17,8 +17,7 @@ use Rattle.rules.specs.Sound.{Fault, judge, unsettled}
 use Rattle.rules.specs.Answers.{Verdict, refused, granted, refuse, noClump, test, testFault, notPool, notSettled, ifSound, ifSettled, storesOf, answerAt, answerOf}
 use Rattle.rules.specs.Requests.{verdictOn, Does, finder, found}
 use Rattle.rules.specs.Reading.{clumpsOf, Tiled}
-use Rattle.laws.specs.Walks.{sound-tiles}
-use Rattle.laws.specs.Pools.{answerIs, granted-none, Sound, RightLength, pool-length}
+use Rattle.laws.specs.Pools.{answerIs, granted-none, Sound, RightLength, pool-length, pool-tiles}
 use Rattle.word.specs.declared.Power.{Power}
 use Rattle.word.specs.Runs.{full, Ran, ran-answer}
 
@@ -105,10 +104,7 @@ module _ (img : Image) (r : Answer) (e : (fuse : ℕ) → r ≡ answerOf fuse (i
   settled-is z v = let s = settled z in rw (s .0 .pool, s .0 .sound, s .1)
 
   pub settled-tiles : r .answer ≡ 0 → Tiled img
-  settled-tiles z =
-      let s = settled-sound z in
-      let l = pool-length (length img) (mem img) (s .pool) in
-      sound-tiles (length img) (mem img) (omega arith) (s .sound)
+  settled-tiles z = pool-tiles (length img) (mem img) (settled-sound z)
 
   pub settled-length : r .answer ≡ 0 → RightLength (length img)
   settled-length z = pool-length (length img) (mem img) (settled-sound z .pool)

@@ -18,9 +18,9 @@ use Rattle.rules.specs.Sound.{Fault, judge, startsFree, touching, unsettled}
 use Rattle.rules.specs.Answers.{granted, test, testFault, notPool, notSettled, ifSound, ifSettled, answerOf, bytesOf, totalOf, totalsFor}
 use Rattle.rules.specs.Requests.{verdict, answerOn, totalsOn}
 use Rattle.rules.specs.Reading.{clumpsOf}
-use Rattle.laws.specs.Walks.{rest-step, sound-tiles}
+use Rattle.laws.specs.Walks.{rest-step}
 use Rattle.laws.specs.Walking.{Walking, walking-start, walking-end, walking-move}
-use Rattle.laws.specs.Pools.{answerIs, granted-none, Sound, check-sound, pool-length}
+use Rattle.laws.specs.Pools.{answerIs, granted-none, Sound, check-sound, pool-tiles}
 use Rattle.laws.specs.Totals.{tiles-bytes}
 use Rattle.judge.specs.Forms.{judgedOf}
 use Rattle.judge.specs.declared.Judged.the-variants.{Fault as Broken}
@@ -148,10 +148,7 @@ module _ (n : ℕ) (m : Mem) (r : Answer) (e : (fuse : ℕ) → r ≡ answerOf f
   survey-settled z u fuse = rw u (e fuse)
 
   pub survey-tiles : r .answer ≡ 0 → Tiles clumpsAt (walk n m) n
-  survey-tiles z =
-      let s = survey-sound z in
-      let l = pool-length n m (s .pool) in
-      sound-tiles n m (omega arith) (s .sound)
+  survey-tiles z = pool-tiles n m (survey-sound z)
 
 -- check, refused and accepted
 module _ (img : Image) (r : Answer) (e : (fuse : ℕ) → r ≡ answerOf fuse (ifSound (length img) (mem img) (granted 0 []))) where

@@ -26,6 +26,7 @@ use Rattle.laws.specs.Tilings.{tiles-le}
 use Rattle.laws.specs.Walks.{no-faults}
 use Rattle.laws.specs.Walking.{Placed, all-placed, seek-placed}
 use Rattle.laws.specs.Mending.{settle, targets-valid, map-released, tiles-settle, tiles-freed}
+use Rattle.laws.specs.Needs.{need-even}
 use Rattle.laws.specs.Behind.{behind-test, behind-sound, behind-settled, behind-found}
 use Rattle.laws.specs.Pools.{Sound, RightLength, right-length, pool-length, pool-tiles}
 
@@ -99,11 +100,6 @@ entries-land n m (s ∷ sl) b t v =
     let x = and-both (isValid (walk n m) (m s)) _ v in
     let y = valid-in n m (m s) t (x .0) in
     (record { even = y .0; inside = y .1; small = b (valueAt s) }, entries-land n m sl b t (x .1))
-
--- need is a multiple of 64
-pub need-even : (size : ℕ) → needOf size % unit ≡ 0
-unfolding needOf
-need-even size = omega arith
 
 reserve-land : (n need : ℕ) (h : Head) → Lies n h → need % unit ≡ 0 → need ≤ h .nbytes → Land n (reserveStores need h)
 unfolding reserveStores

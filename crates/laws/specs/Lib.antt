@@ -11,6 +11,7 @@ pub mod Stored
 pub mod Mending
 pub mod Joins
 pub mod Served
+pub mod Needs
 pub mod Behind
 pub mod Landing
 pub mod Named

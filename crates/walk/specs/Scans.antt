@@ -1,6 +1,6 @@
--- Laws of the searches over the clumps: need against nbytes without computing need, a word in a part without a sum, and the
--- searches' answers at the end, at a hit and past a clump. Assumes nothing.
-use Prim.Native.Nat.{ℕ, zero, suc, _+_, _-_, _*_, _/_, _<_, _≤_}
+-- Laws of the searches over the clumps: a word in a part without a sum, what the offset or the enum of a search tells in clumps that
+-- tile, and the targets of a list that was read, one entry after the other. Assumes nothing.
+use Prim.Native.Nat.{ℕ, zero, suc, _+_, _-_, _<_, _≤_}
 use mathlib.Core.Path.{_≡_, refl, sym, ap, _∙_}
 use mathlib.Core.List.{List, [], _∷_, map}
 use mathlib.Core.Bool.{Bool, true, false, cond, not, _&&_, _||_}
@@ -16,7 +16,6 @@ use Rattle.rules.specs.Words.{Mem}
 use Rattle.rules.specs.Pages.{clumpsAt}
 use Rattle.rules.specs.Clumps.{Head, head, bodyOf, slots, isUsed, Tiles, walk}
 use Rattle.rules.specs.Sound.{lies, isValid, allValid}
-use Rattle.rules.specs.Stores.{needOf}
 use Rattle.rules.specs.Requests.{finder}
 use Rattle.word.specs.Tests.{leb-same}
 use Rattle.laws.specs.Searches.{and-both}
@@ -26,14 +25,6 @@ use Rattle.walk.specs.Forms.{offsetOf, foundOf, listValid}
 use Rattle.page.specs.Forms.{entryAt, targetOf, listAt, InImage}
 use Rattle.walk.specs.declared.Found.{Found}
 use Rattle.walk.specs.declared.Found.the-variants.{At, Nothing}
-
-pub need-small : (n size : ℕ) → n < 64 → false ≡ leb (needOf size) n
-unfolding needOf
-need-small n size l = sym (lt-leb _ n (omega arith))
-
-pub need-room : (n size : ℕ) → 64 ≤ n → leb size ((n - 64) / 64 * 64) ≡ leb (needOf size) n
-unfolding needOf
-need-room n size l = leb-same size ((n - 64) / 64 * 64) (64 + (size + 63) / 64 * 64) n (λ k. omega arith) (λ k. omega arith)
 
 -- the word at t in a up to b
 pub lies-below : (a b t : ℕ) → t < a → false ≡ lies a b t

@@ -25,7 +25,7 @@ use Rattle.laws.specs.Searches.{those-each, and-both, any-each, seek-eac
 use Rattle.laws.specs.Tilings.{tiles-le}
 use Rattle.laws.specs.Walks.{no-faults}
 use Rattle.laws.specs.Walking.{Placed, all-placed, seek-placed}
-use Rattle.laws.specs.Mending.{settle, targets-valid, map-released, tiles-settle, tiles-freed}
+use Rattle.laws.specs.Mending.{targets-valid, tiles-released}
 use Rattle.laws.specs.Needs.{need-even}
 use Rattle.laws.specs.Behind.{behind-test, behind-sound, behind-settled, behind-found}
 use Rattle.laws.specs.Pools.{Sound, RightLength, right-length, pool-length, pool-tiles}
@@ -292,9 +292,7 @@ module _ (n : ℕ) (m : Mem) (b : (o : ℕ) → m o < wordValues) (s : Sound n m
       (releases-land n (those (hasState RESERVED) (walk n m))
       (those-each (Lies n) (hasState RESERVED) (walk n m) (each-map (Placed n m) (Lies n) (walk n m) (λ h p. placed-lies n m h (small n m s) p) (all-placed n m (pool-tiles n m s)))))
       (joining-land n clumpsAt n (runs (map released (walk n m))) (small n m s) (omega arith)
-      (runs-tile clumpsAt n (map released (walk n m))
-      (subst (λ (ks : List Head). Tiles clumpsAt ks n) (map-released clumpsAt n (walk n m) (pool-tiles n m s)) (tiles-freed clumpsAt n (map settle (walk n m)) (tiles-settle clumpsAt n (walk n m) (pool-tiles n m s))))
-      refl)))
+      (runs-tile clumpsAt n (map released (walk n m)) (tiles-released clumpsAt n (walk n m) (pool-tiles n m s)) refl)))
 
 -- create
 zeros-land : (n i k : ℕ) → i % wordBytes ≡ 0 → i + wordBytes * k ≤ n → Land n (zeros i k)

@@ -19,12 +19,19 @@ use Rattle.laws.specs.Totals.{five}
 use Rattle.laws.specs.Walks.{Reads}
 use Rattle.laws.specs.Stored.{withState, Clear, clear-below, clear-header, reads-upd, reads-after, reads-state, valid-clear}
 
--- the clump once it is finished, and once it is released
+-- the state once the clump is finished, and once it is released
+abbrev settled : ℕ → ℕ
+settled s = cond (eqb s ACTIVATING) ACTIVE (cond (eqb s FREEING) FREE s)
+
+abbrev unreserved : ℕ → ℕ
+unreserved s = cond (eqb s RESERVED) FREE s
+
+-- the clump then
 abbrev pub settle : Head → Head
-settle h = withState h (cond (hasState ACTIVATING h) ACTIVE (cond (hasState FREEING h) FREE (h .state)))
+settle h = withState h (settled (h .state))
 
 abbrev pub freed : Head → Head
-freed h = withState h (cond (hasState RESERVED h) FREE (h .state))
+freed h = withState h (unreserved (h .state))
 
 pub map-released : (a b : ℕ) (hs : List Head) → Tiles a hs b → map freed (map settle hs) ≡ map released hs
 map-released a b [] t = refl
@@ -33,29 +40,22 @@ map-released a b (h ∷ hs) t =
     (five (λ s. freed (settle (record { at = h .at; nbytes = h .nbytes; state = s })) ≡ released (record { at = h .at; nbytes = h .nbytes; state = s })) refl refl refl refl refl (h .state) (t .0 .known))
     (map-released (a + h .nbytes) b hs (t .1))
 
-pub tiles-settle : (a b : ℕ) (hs : List Head) → Tiles a hs b → Tiles a (map settle hs) b
-tiles-settle a b [] t = t
-tiles-settle a b (h ∷ hs) t = (
-  record {
-    here = t .0 .here;
-    least = t .0 .least;
-    whole = t .0 .whole;
-    known = five (λ s. settle (record { at = h .at; nbytes = h .nbytes; state = s }) .state ≤ FREEING) (omega arith) (omega arith) (omega arith) (omega arith) (omega arith) (h .state) (t .0 .known);
-  },
-  tiles-settle (a + h .nbytes) b hs (t .1),
+-- with other states, of the five, the clumps tile as before
+tiles-states : (f : ℕ → ℕ) → ((s : ℕ) → s ≤ FREEING → f s ≤ FREEING) → (a b : ℕ) (hs : List Head) → Tiles a hs b → Tiles a (map (λ h. withState h (f (h .state))) hs) b
+tiles-states f g a b [] t = t
+tiles-states f g a b (h ∷ hs) t = (
+  record { here = t .0 .here; least = t .0 .least; whole = t .0 .whole; known = g (h .state) (t .0 .known) },
+  tiles-states f g (a + h .nbytes) b hs (t .1),
 )
 
+pub tiles-settle : (a b : ℕ) (hs : List Head) → Tiles a hs b → Tiles a (map settle hs) b
+tiles-settle = tiles-states settled (five (λ s. settled s ≤ FREEING) (omega arith) (omega arith) (omega arith) (omega arith) (omega arith))
+
 pub tiles-freed : (a b : ℕ) (hs : List Head) → Tiles a hs b → Tiles a (map freed hs) b
-tiles-freed a b [] t = t
-tiles-freed a b (h ∷ hs) t = (
-  record {
-    here = t .0 .here;
-    least = t .0 .least;
-    whole = t .0 .whole;
-    known = five (λ s. freed (record { at = h .at; nbytes = h .nbytes; state = s }) .state ≤ FREEING) (omega arith) (omega arith) (omega arith) (omega arith) (omega arith) (h .state) (t .0 .known);
-  },
-  tiles-freed (a + h .nbytes) b hs (t .1),
-)
+tiles-freed = tiles-states unreserved (five (λ s. unreserved s ≤ FREEING) (omega arith) (omega arith) (omega arith) (omega arith) (omega arith))
+
+pub tiles-released : (a b : ℕ) (hs : List Head) → Tiles a hs b → Tiles a (map released hs) b
+tiles-released a b hs t = subst (λ (ks : List Head). Tiles a ks b) (map-released a b hs t) (tiles-freed a b (map settle hs) (tiles-settle a b hs t))
 
 -- a clump that is not unfinished stays
 settle-idle : (h : Head) → isPending h ≡ false → settle h ≡ h

@@ -7,6 +7,7 @@ pub mod Pools
 pub mod Totals
 pub mod Headers
 pub mod Independence
+pub mod Bodies
 pub mod Stored
 pub mod Mending
 pub mod Joins

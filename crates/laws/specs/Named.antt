@@ -3,23 +3,23 @@
 -- Assumes nothing.
 use Prim.Native.Nat.{ℕ, _+_, _-_, _<_, _≤_}
 use mathlib.Core.Path.{_≡_, refl, subst, _∙_}
-use mathlib.Core.Bool.{Bool, true, false, not, cond, _&&_, _||_}
+use mathlib.Core.Bool.{Bool, true, false, not, cond, _&&_}
 use mathlib.Core.Logic.{_⊎_, inl, inr, ⊎-elim}
 use mathlib.Core.Option.{Option, some, none}
 use mathlib.Core.List.{List, [], _∷_, _++_, map}
 use native.Mathlib.Omega.{arith}
 use lib.Dec.{eqb, leb, ltb}
 use lib.ListN.{length, getD, take}
-use borrow.Author.Tests.{leb-true, ltb-true, leb-false, ltb-false, not-false, not-true}
+use borrow.Author.Tests.{leb-true, leb-false, ltb-false, not-false}
 use Rattle.rules.specs.Lists.{seek, those, any, Each}
 use Rattle.rules.specs.Words.{Image, Mem, Store, put, carry, mem, store, wordBytes}
-use Rattle.rules.specs.Pages.{clumpsAt, staticAt, staticEnd}
-use Rattle.rules.specs.Clumps.{Head, bodyOf, endOf, headerBytes, leastClump, slots, usedSlots, valueAt, stateAt, entries, isFree, isLive, isWaiting, isPending, isEmpty, isUsed, hasState, FREE, RESERVED, ACTIVATING, ACTIVE, FREEING, Tiles, walk}
+use Rattle.rules.specs.Clumps.{Head, bodyOf, headerBytes, leastClump, slots, usedSlots, valueAt, stateAt, entries, isFree, isLive, isWaiting, isPending, isEmpty, isUsed, hasState, FREE, RESERVED, ACTIVATING, ACTIVE, FREEING, walk}
 use Rattle.rules.specs.Stores.{emptying, setState, needOf, fits, leastRest, reserveStores, lastOf, finishActivating, finishFreeing, activateStores, dropStores, freeAfter, freeBefore, joinBefore, joinBoth, freeStores, finishing, releasing, released, Run, inFront, runs, joinRun, joining, recoverStores}
 use Rattle.rules.specs.Reading.{within, inPart}
 use Rattle.word.specs.Memory.{byte-put}
 use Rattle.laws.specs.Searches.{those-each, differ, and-both, or-neither, each-append, each-take, last-each, seek-each, seek-split}
 use Rattle.laws.specs.Behind.{behind-test, behind-sound, behind-settled, behind-found}
+use Rattle.laws.specs.Bodies.{Off, off}
 use Rattle.laws.specs.Landing.{found-lies}
 use Rattle.laws.specs.Pools.{Sound, pool-tiles}
 use Rattle.rules.specs.declared.Request.{Request}
@@ -38,60 +38,6 @@ pub carry-miss : (img : Image) (st : List Store) (i : ℕ) → Each (Miss i) st 
 unfolding carry
 carry-miss img [] i f = refl
 carry-miss img (s ∷ st) i f = carry-miss (put img (s .to) (s .word)) st i (f .1) ∙ byte-put img (s .to) (s .word) i (f .0)
-
--- the byte at i lies outside the header of h, and outside all of h if h is FREE
-pub record Off (i : ℕ) (h : Head) : Type 0 where
-  pub header : (i < h .at) ⊎ (bodyOf h ≤ i)
-  pub whole : isFree h ≡ true → (i < h .at) ⊎ (endOf h ≤ i)
-
-off-below : (a b i : ℕ) (hs : List Head) → Tiles a hs b → i < a → Each (Off i) hs
-off-below a b i [] t l = tt
-off-below a b i (h ∷ hs) t l =
-    let e = t .0 .here in
-    (record { header = inl (omega arith); whole = λ z. inl (omega arith) }, off-below (a + h .nbytes) b i hs (t .1) (omega arith))
-
-abbrev inBody : ℕ → Head → Bool
-inBody i h = isLive h && within (bodyOf h) (endOf h) i
-
-body-in : (i : ℕ) (h : Head) → inBody i h ≡ true → (isFree h ≡ false) × (bodyOf h ≤ i) × (i < endOf h)
-body-in i h e =
-    let x = and-both (isLive h) _ e in
-    let y = and-both (leb (bodyOf h) i) _ (x .1) in
-    (not-true _ (x .0), leb-true (bodyOf h) i (y .0), ltb-true i (endOf h) (y .1))
-
-body-above : (a b i : ℕ) (hs : List Head) → Tiles a hs b → any (inBody i) hs ≡ true → a ≤ i
-unfolding any
-body-above a b i [] t e = differ e refl
-body-above a b i (h ∷ hs) t e = go (inBody i h) refl e (body-above (a + h .nbytes) b i hs (t .1))
-  where
-    go : (c : Bool) → inBody i h ≡ c → (c || any (inBody i) hs) ≡ true → (any (inBody i) hs ≡ true → a + h .nbytes ≤ i) → a ≤ i
-    go true q f ih = let x = body-in i h q in let e = t .0 .here in let y = x .1 in omega arith
-    go false q f ih = let x = ih f in omega arith
-
-off-body : (a b i : ℕ) (hs : List Head) → Tiles a hs b → any (inBody i) hs ≡ true → Each (Off i) hs
-unfolding any
-off-body a b i [] t e = tt
-off-body a b i (h ∷ hs) t e = go (inBody i h) refl e (off-body (a + h .nbytes) b i hs (t .1))
-  where
-    go : (c : Bool) → inBody i h ≡ c → (c || any (inBody i) hs) ≡ true → (any (inBody i) hs ≡ true → Each (Off i) hs) → Each (Off i) (h ∷ hs)
-    go true q f ih =
-        let x = body-in i h q in
-        let e = t .0 .here in
-        let u = x .2 in
-        (record { header = inr (x .1); whole = λ z. differ z (x .0) }, off-below (a + h .nbytes) b i hs (t .1) (omega arith))
-    go false q f ih =
-        let x = body-above (a + h .nbytes) b i hs (t .1) f in
-        let e = t .0 .here in
-        let l = t .0 .least in
-        (record { header = inr (omega arith); whole = λ z. inr (omega arith) }, ih f)
-
-pub off : (n i : ℕ) (hs : List Head) → Tiles clumpsAt hs n → inPart isLive hs i ≡ true → Each (Off i) hs
-unfolding inPart
-off n i hs t e = go (within staticAt staticEnd i) refl e
-  where
-    go : (c : Bool) → within staticAt staticEnd i ≡ c → (c || any (inBody i) hs) ≡ true → Each (Off i) hs
-    go true q f = let x = ltb-true i staticEnd (and-both (leb staticAt i) _ q .1) in off-below clumpsAt n i hs t (omega arith)
-    go false q f = off-body clumpsAt n i hs t f
 
 -- a store into the header of h, at most 56 bytes in
 header-miss : (i k w : ℕ) (h : Head) → Off i h → k + wordBytes ≤ headerBytes → Miss i (store (h .at + k) w)

@@ -14,5 +14,9 @@ pub mod Joins
 pub mod Served
 pub mod Needs
 pub mod Behind
+pub mod Lying
+pub mod Spans
+pub mod Taking
 pub mod Landing
+pub mod OneWord
 pub mod Named

@@ -2,7 +2,7 @@
 use mathlib.Core.Path.{_≡_, refl, sym, ap, _∙_, subst}
 use mathlib.Core.Bool.{Bool, true, false, cond, _&&_, _||_}
 use mathlib.Core.Option.{Option, some, none}
-use mathlib.Core.List.{List, [], _∷_, _++_}
+use mathlib.Core.List.{List, [], _∷_, _++_, map}
 use Prim.Native.Nat.{ℕ, zero, suc}
 use native.Mathlib.Omega.{arith}
 use lib.ListN.{take}
@@ -103,6 +103,10 @@ module _ {A : Type 0} where
   pub each-map : (P Q : A → Type 0) (xs : List A) → ((x : A) → P x → Q x) → Each P xs → Each Q xs
   each-map P Q [] h f = tt
   each-map P Q (x ∷ xs) h f = (h x (f .0), each-map P Q xs h (f .1))
+
+  pub map-each : {B : Type 0} (Q : B → Type 0) (f : A → B) (xs : List A) → Each (λ x. Q (f x)) xs → Each Q (map f xs)
+  map-each Q f [] e = tt
+  map-each Q f (x ∷ xs) e = (e .0, map-each Q f xs (e .1))
 
   pub each-both : (P Q : A → Type 0) (xs : List A) → Each P xs → Each Q xs → Each (λ x. P x × Q x) xs
   each-both P Q [] f g = tt

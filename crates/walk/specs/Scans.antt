@@ -20,7 +20,7 @@ use Rattle.rules.specs.Requests.{finder}
 use Rattle.word.specs.Tests.{leb-same}
 use Rattle.laws.specs.Searches.{and-both}
 use Rattle.laws.specs.Walking.{Inside, seek-placed}
-use Rattle.laws.specs.Landing.{valid-in}
+use Rattle.laws.specs.Lying.{valid-in}
 use Rattle.walk.specs.Forms.{offsetOf, foundOf, listValid}
 use Rattle.page.specs.Forms.{entryAt, targetOf, listAt, InImage}
 use Rattle.walk.specs.declared.Found.{Found}

@@ -41,6 +41,10 @@ storeIf bytes at w = cond (eqb bytes 0) [] (store at w ∷ [])
 abbrev pub bytesAt : ℕ → Mem → ℕ → ℕ
 bytesAt n m at = cond (ltb at n) (m at) 0
 
+-- a FREE clump that starts at an offset or, below it, ends there
+abbrev pub beside : Bool → ℕ → Head → Bool
+beside below at k = isFree k && eqb (cond below (endOf k) (k .at)) at
+
 -- the clump at h as the code has it, before it is freed
 pub record Turned (img : Image) (h state nbytes : ℕ) (l : List (List ℕ)) : Type 0 where
   pub tiles : Tiled img
@@ -113,18 +117,9 @@ module _ (n : ℕ) (m : Mem) (p : Head → Bool) (tiles : Tiles clumpsAt (walk n
   beside-some h = let l = beside-found h in (offset-some n m p tiles r e l, rw (lt-ltb r n l))
 
 -- the clumps beside, joined: next is the nbytes of the FREE clump that follows, under those of the one before, which stands at below
-abbrev pub startsAt : ℕ → Head → Bool
-startsAt at k = isFree k && eqb (k .at) at
-
-abbrev nextOf : ℕ → ℕ → Head → Bool
-nextOf h nbytes = startsAt (h + nbytes)
-
-abbrev pub belowOf : ℕ → Head → Bool
-belowOf h k = isFree k && eqb (endOf k) h
-
 module _ (img : Image) (h state nbytes : ℕ) (l : List (List ℕ)) (t : Turned img h state nbytes l) (after below : ℕ)
-    (a : after ≡ offsetOf (length img) (seek (startsAt (h + nbytes)) (clumpsOf img)))
-    (b : below ≡ offsetOf (length img) (seek (belowOf h) (clumpsOf img))) where
+    (a : after ≡ offsetOf (length img) (seek (beside false (h + nbytes)) (clumpsOf img)))
+    (b : below ≡ offsetOf (length img) (seek (beside true h) (clumpsOf img))) where
   abbrev next : ℕ
   next = bytesAt (length img) (mem img) after
 
@@ -138,9 +133,9 @@ module _ (img : Image) (h state nbytes : ℕ) (l : List (List ℕ)) (t : Turned 
       go : (c : Bool) → eqb next 0 ≡ c → nbytes + next ≤ length img
       go true q = omega (arith, eqb-true next 0 q, t .room)
       go false q =
-          let f = beside-some (length img) (mem img) (nextOf h nbytes) (t .tiles) after a (eqb-false next 0 q) in
-          let i = seek-placed (length img) (mem img) (nextOf h nbytes) (head (mem img) after) (t .tiles) (f .0) in
-          let p = seek-split (nextOf h nbytes) (clumpsOf img) (head (mem img) after) (f .0) .passes in
+          let f = beside-some (length img) (mem img) (beside false (h + nbytes)) (t .tiles) after a (eqb-false next 0 q) in
+          let i = seek-placed (length img) (mem img) (beside false (h + nbytes)) (head (mem img) after) (t .tiles) (f .0) in
+          let p = seek-split (beside false (h + nbytes)) (clumpsOf img) (head (mem img) after) (f .0) .passes in
           let e = eqb-true after (h + nbytes) (and-both (isFree (head (mem img) after)) _ p .1) in
           omega (arith, i .inside .room, f .1)
 
@@ -150,36 +145,36 @@ module _ (img : Image) (h state nbytes : ℕ) (l : List (List ℕ)) (t : Turned 
       go : (c : Bool) → eqb under 0 ≡ c → under ≤ h
       go true q = omega (arith, eqb-true under 0 q)
       go false q =
-          let f = beside-some (length img) (mem img) (belowOf h) (t .tiles) below b (eqb-false under 0 q) in
-          let p = seek-split (belowOf h) (clumpsOf img) (head (mem img) below) (f .0) .passes in
+          let f = beside-some (length img) (mem img) (beside true h) (t .tiles) below b (eqb-false under 0 q) in
+          let p = seek-split (beside true h) (clumpsOf img) (head (mem img) below) (f .0) .passes in
           let e = eqb-true (below + mem img below) h (and-both (isFree (head (mem img) below)) _ p .1) in
           omega (arith, f .1)
 
-  below-are : (w : ℕ) → joinBefore (seek (belowOf h) (clumpsOf img)) w ≡ storeIf under below (under + w)
+  below-are : (w : ℕ) → joinBefore (seek (beside true h) (clumpsOf img)) w ≡ storeIf under below (under + w)
   below-are w = go (eqb under 0) refl
     where
-      go : (c : Bool) → eqb under 0 ≡ c → joinBefore (seek (belowOf h) (clumpsOf img)) w ≡ cond c [] (store below (under + w) ∷ [])
-      go true q = rw (beside-none (length img) (mem img) (belowOf h) (t .tiles) below b (eqb-true under 0 q))
+      go : (c : Bool) → eqb under 0 ≡ c → joinBefore (seek (beside true h) (clumpsOf img)) w ≡ cond c [] (store below (under + w) ∷ [])
+      go true q = rw (beside-none (length img) (mem img) (beside true h) (t .tiles) below b (eqb-true under 0 q))
       go false q =
-          let f = beside-some (length img) (mem img) (belowOf h) (t .tiles) below b (eqb-false under 0 q) in
+          let f = beside-some (length img) (mem img) (beside true h) (t .tiles) below b (eqb-false under 0 q) in
           rw (f .0) (ap (λ (u : ℕ). store below (u + w) ∷ []) (sym (f .1)))
 
   joins-are :
-      joinBoth (seek (nextOf h nbytes) (clumpsOf img)) (seek (belowOf h) (clumpsOf img)) (head (mem img) h)
+      joinBoth (seek (beside false (h + nbytes)) (clumpsOf img)) (seek (beside true h) (clumpsOf img)) (head (mem img) h)
       ≡ storeIf next h (nbytes + next) ++ storeIf under below (under + (nbytes + next))
   joins-are = go (eqb next 0) refl
     where
       go :
           (c : Bool)
           → eqb next 0 ≡ c
-          → joinBoth (seek (nextOf h nbytes) (clumpsOf img)) (seek (belowOf h) (clumpsOf img)) (head (mem img) h)
+          → joinBoth (seek (beside false (h + nbytes)) (clumpsOf img)) (seek (beside true h) (clumpsOf img)) (head (mem img) h)
           ≡ cond c [] (store h (nbytes + next) ∷ []) ++ storeIf under below (under + (nbytes + next))
       go true q =
           let z = eqb-true next 0 q in
           let y : nbytes + next ≡ mem img h = omega (arith, t .size) in
-          rw (beside-none (length img) (mem img) (nextOf h nbytes) (t .tiles) after a z, y) (below-are (mem img h))
+          rw (beside-none (length img) (mem img) (beside false (h + nbytes)) (t .tiles) after a z, y) (below-are (mem img h))
       go false q =
-          let f = beside-some (length img) (mem img) (nextOf h nbytes) (t .tiles) after a (eqb-false next 0 q) in
+          let f = beside-some (length img) (mem img) (beside false (h + nbytes)) (t .tiles) after a (eqb-false next 0 q) in
           let y : nbytes + next ≡ mem img h + mem img after = omega (arith, t .size, f .1) in
           rw (f .0, y) (ap (λ (st : List Store). store h (mem img h + mem img after) ∷ st) (below-are (mem img h + mem img after)))
 
@@ -191,7 +186,7 @@ module _ (img : Image) (h state nbytes : ℕ) (l : List (List ℕ)) (t : Turned 
       dropOf h state l ++ (storeIf next h (nbytes + next) ++ storeIf under below (under + (nbytes + next)))
       ≡ freeStores (mem img) (clumpsOf img) (head (mem img) h)
   unfolding freeStores
-  free-stores = ap₂ _++_ drops-are (sym joins-are ∙ ap (λ (w : ℕ). joinBoth (seek (nextOf h w) (clumpsOf img)) (seek (belowOf h) (clumpsOf img)) (head (mem img) h)) (t .size))
+  free-stores = ap₂ _++_ drops-are (sym joins-are ∙ ap (λ (w : ℕ). joinBoth (seek (beside false (h + w)) (clumpsOf img)) (seek (beside true h) (clumpsOf img)) (head (mem img) h)) (t .size))
 
   pub release-acts :
       {x y z : Image} {p q r u : Power} {w : Answer} (n k offset fuse : ℕ)

@@ -8,13 +8,14 @@ use mathlib.Core.List.{List, [], _∷_, _++_, map}
 use native.Mathlib.Omega.{arith}
 use lib.Dec.{eqb}
 use Rattle.rules.specs.Lists.{seek, those, Each}
-use Rattle.rules.specs.Words.{Mem, upd, after}
+use Rattle.rules.specs.Words.{Mem, store, upd, after}
 use Rattle.rules.specs.Pages.{clumpsAt}
 use Rattle.rules.specs.Clumps.{Head, Tiles, stateAt, hasState, isPending, isUsed, slots, usedSlots, entry, entries, FREE, RESERVED, ACTIVATING, ACTIVE, FREEING}
 use Rattle.rules.specs.Sound.{faultAt, second, secondFault, isValid, allValid, targetFault}
 use Rattle.rules.specs.Stores.{setState, emptying, finishActivating, finishFreeing, finishing, releasing, released}
 use Rattle.word.specs.Memory.{upd-same, upd-other, after-append}
-use Rattle.laws.specs.Searches.{some-none, or-neither, Split, seek-split, seek-none, all-each, those-nil, nil-those, those-append}
+use Rattle.laws.specs.Searches.{some-none, or-neither, Split, seek-split, seek-none, each-map, map-each, all-each, those-each, those-nil, nil-those, those-append}
+use Rattle.laws.specs.Tilings.{tiles-split}
 use Rattle.laws.specs.Totals.{five}
 use Rattle.laws.specs.Walks.{Reads}
 use Rattle.laws.specs.Stored.{withState, Clear, clear-below, clear-header, reads-upd, reads-after, reads-state, valid-clear}
@@ -88,20 +89,14 @@ targets-valid m hs h e f = go (allValid m hs h) refl (rw e at f)
     go false q g = some-none refl g
 
 entries-clear : (n : ℕ) (m : Mem) (hs : List Head) (sl : List ℕ) → Tiles clumpsAt hs n → Each (λ s. isValid hs (m s) ≡ true) sl → Each (λ s. Clear (s .to) hs) (map (entry m) sl)
-entries-clear n m hs [] t e = tt
-entries-clear n m hs (s ∷ sl) t e = (valid-clear n (m s) hs t (e .0), entries-clear n m hs sl t (e .1))
+entries-clear n m hs sl t e =
+    map-each (λ s. Clear (s .to) hs) (entry m) sl (each-map (λ s. isValid hs (m s) ≡ true) (λ s. Clear (m s) hs) sl (λ s v. valid-clear n (m s) hs t v) e)
 
 emptying-clear : (m : Mem) (a b : ℕ) (p : List Head) (h : Head) (q : List Head) (sl : List ℕ) → Tiles a (p ++ (h ∷ q)) b → Each (λ s. (h .at + 16 ≤ s) × (s < h .at + h .nbytes)) sl → Each (λ s. Clear (s .to) (p ++ (h ∷ q))) (emptying (those (isUsed m) sl))
-unfolding those
-emptying-clear m a b p h q [] t e = tt
-emptying-clear m a b p h q (s ∷ sl) t e = go (isUsed m s) (emptying-clear m a b p h q sl t (e .1))
-  where
-    go :
-        (u : Bool)
-        → Each (λ x. Clear (x .to) (p ++ (h ∷ q))) (emptying (those (isUsed m) sl))
-        → Each (λ x. Clear (x .to) (p ++ (h ∷ q))) (emptying (cond u (s ∷ those (isUsed m) sl) (those (isUsed m) sl)))
-    go true r = (clear-header a b s p h q t (e .0 .0) (e .0 .1), r)
-    go false r = r
+emptying-clear m a b p h q sl t e =
+    map-each (λ s. Clear (s .to) (p ++ (h ∷ q))) (λ s. store s 0) (those (isUsed m) sl)
+    (those-each (λ s. Clear s (p ++ (h ∷ q))) (isUsed m) sl
+    (each-map (λ s. (h .at + 16 ≤ s) × (s < h .at + h .nbytes)) (λ s. Clear s (p ++ (h ∷ q))) sl (λ s f. clear-header a b s p h q t (f .0) (f .1)) e))
 
 -- the headers after the unfinished clump is finished
 module _ (n : ℕ) (m : Mem) (p : List Head) (h : Head) (q : List Head) (t : Tiles clumpsAt (p ++ (h ∷ q)) n) (r : Reads m (p ++ (h ∷ q))) (v : allValid m (p ++ (h ∷ q)) h ≡ true) where
@@ -121,10 +116,6 @@ module _ (n : ℕ) (m : Mem) (p : List Head) (h : Head) (q : List Head) (t : Til
   unfolding finishFreeing after
   dropped = rw (after-append m (entries m (h .at)) (setState h FREE ∷ [])) (reads-state _ FREE clumpsAt n p h q t assigned)
 
-tiles-at : (a b : ℕ) (p : List Head) (h : Head) (q : List Head) → Tiles a (p ++ (h ∷ q)) b → 128 ≤ h .nbytes
-tiles-at a b [] h q t = t .0 .least
-tiles-at a b (k ∷ p) h q t = tiles-at (a + k .nbytes) b p h q (t .1)
-
 pub finish-reads : (n : ℕ) (m : Mem) (hs : List Head) → Tiles clumpsAt hs n → Reads m hs → secondFault hs ≡ none → targetFault m hs ≡ none → Reads (after m (finishing m (seek isPending hs))) (map settle hs)
 unfolding after
 finish-reads n m hs t r s f = go (seek isPending hs) refl
@@ -138,7 +129,7 @@ finish-reads n m hs t r s f = go (seek isPending hs) refl
         let r′ = subst (Reads m) w r in
         let v′ = subst (λ (ks : List Head). allValid m ks h ≡ true) w (targets-valid m hs h e f) in
         let i = others-idle (x .lower) h (x .higher) (subst (λ (ks : List Head). secondFault ks ≡ none) w s) (x .before) (x .passes) in
-        let l = tiles-at clumpsAt n (x .lower) h (x .higher) t′ in
+        let l = tiles-split clumpsAt n (x .lower) (h ∷ x .higher) t′ .2 .0 .least in
         subst (λ (ks : List Head). Reads (after m (finishing m (some h))) (map settle ks)) (sym w)
         (rw (map-split (x .lower) h (x .higher) (x .before) i) (pick x t′ r′ v′ l (hasState ACTIVATING h) refl))
       where

@@ -18,7 +18,7 @@ use Rattle.word.specs.Tests.{ltb-same}
 use Rattle.laws.specs.Searches.{or-neither, seek-hit, seek-pass}
 use Rattle.laws.specs.Walks.{isFaulty, rest-start, rest-end}
 use Rattle.judge.specs.Forms.{gapsIn, judgedOf}
-use Rattle.page.specs.Forms.{listAt}
+use Rattle.page.specs.Forms.{targetOf, listAt}
 use Rattle.judge.specs.declared.Judged.{Judged}
 use Rattle.judge.specs.declared.Judged.the-variants.{Sound, Fault as Broken}
 
@@ -77,7 +77,7 @@ pub list-gaps :
     (m : Mem) (a : ℕ) (l : List (List ℕ))
     → l ≡ listAt m a
     → (b : Bool)
-    → b ≡ gapsIn (getD (getD l 0 []) 0 0) (getD (getD l 1 []) 0 0) (getD (getD l 2 []) 0 0)
+    → b ≡ gapsIn (targetOf (getD l 0 [])) (targetOf (getD l 1 [])) (targetOf (getD l 2 []))
     → gapped m (slots a) ≡ b
 list-gaps m a l e b f = gaps-are m a ∙ sym (rw e at f)
 

@@ -12,7 +12,7 @@ use Rattle.rules.specs.declared.Request.the-variants.{Create, Reserve, Onactive
 use Rattle.rules.specs.Lists.{seek, those, any, all, Each}
 use Rattle.rules.specs.Words.{Mem, Store, wordBytes, allZero}
 use Rattle.rules.specs.Pages.{headerAt, signatureHighAt, totalAt, paddingAt, paddingWords, clumpsAt, isPool}
-use Rattle.rules.specs.Clumps.{Head, head, bodyOf, FREE, RESERVED, ACTIVATING, ACTIVE, FREEING, hasState, headerBytes, isWaiting, isPending, isEmpty, isUsed, slots, valueAt, usedSlots, targetAt, entry, entries, headsFrom, walk}
+use Rattle.rules.specs.Clumps.{Head, head, bodyOf, FREE, RESERVED, ACTIVATING, ACTIVE, FREEING, hasState, headerBytes, isWaiting, isPending, isEmpty, isUsed, slots, valueAt, usedSlots, targetAt, entry, headsFrom, walk}
 use Rattle.rules.specs.Sound.{Fault, faultAt, inPlace, gapped, listBad, faultOf, clumpFault, secondFault, isValid, allValid, invalid, targetFault, orElse, judge}
 use Rattle.rules.specs.Answers.{Verdict, granted, test, wrongState, badTarget, ifSound, ifSettled}
 use Rattle.rules.specs.Stores.{setState, freeAfter, freeBefore, joinBoth, releasing, released, runs, joining, emptying, finishActivating, finishFreeing, activateStores, dropStores, freeStores, finishing, recoverStores}

@@ -7,10 +7,16 @@ pub mod Pools
 pub mod Totals
 pub mod Headers
 pub mod Independence
+pub mod Bodies
 pub mod Stored
 pub mod Mending
 pub mod Joins
 pub mod Served
+pub mod Needs
 pub mod Behind
+pub mod Lying
+pub mod Spans
+pub mod Taking
 pub mod Landing
+pub mod OneWord
 pub mod Named

@@ -7,24 +7,32 @@ use mathlib.Core.Option.{Option, some, none}
 use mathlib.Core.List.{List, [], _∷_, _++_, map}
 use native.Mathlib.Omega.{arith}
 use lib.Dec.{eqb}
-use Rattle.rules.specs.Lists.{seek, those, all, Each}
-use Rattle.rules.specs.Words.{Mem, upd, after}
+use Rattle.rules.specs.Lists.{seek, those, Each}
+use Rattle.rules.specs.Words.{Mem, store, upd, after}
 use Rattle.rules.specs.Pages.{clumpsAt}
 use Rattle.rules.specs.Clumps.{Head, Tiles, stateAt, hasState, isPending, isUsed, slots, usedSlots, entry, entries, FREE, RESERVED, ACTIVATING, ACTIVE, FREEING}
 use Rattle.rules.specs.Sound.{faultAt, second, secondFault, isValid, allValid, targetFault}
 use Rattle.rules.specs.Stores.{setState, emptying, finishActivating, finishFreeing, finishing, releasing, released}
 use Rattle.word.specs.Memory.{upd-same, upd-other, after-append}
-use Rattle.laws.specs.Searches.{some-none, or-neither, and-both, Split, seek-split, seek-none}
+use Rattle.laws.specs.Searches.{some-none, or-neither, Split, seek-split, seek-none, each-map, map-each, all-each, those-each, those-nil, nil-those, those-append}
+use Rattle.laws.specs.Tilings.{tiles-split}
 use Rattle.laws.specs.Totals.{five}
 use Rattle.laws.specs.Walks.{Reads}
 use Rattle.laws.specs.Stored.{withState, Clear, clear-below, clear-header, reads-upd, reads-after, reads-state, valid-clear}
 
--- the clump once it is finished, and once it is released
+-- the state once the clump is finished, and once it is released
+abbrev settled : ℕ → ℕ
+settled s = cond (eqb s ACTIVATING) ACTIVE (cond (eqb s FREEING) FREE s)
+
+abbrev unreserved : ℕ → ℕ
+unreserved s = cond (eqb s RESERVED) FREE s
+
+-- the clump then
 abbrev pub settle : Head → Head
-settle h = withState h (cond (hasState ACTIVATING h) ACTIVE (cond (hasState FREEING h) FREE (h .state)))
+settle h = withState h (settled (h .state))
 
 abbrev pub freed : Head → Head
-freed h = withState h (cond (hasState RESERVED h) FREE (h .state))
+freed h = withState h (unreserved (h .state))
 
 pub map-released : (a b : ℕ) (hs : List Head) → Tiles a hs b → map freed (map settle hs) ≡ map released hs
 map-released a b [] t = refl
@@ -33,29 +41,22 @@ map-released a b (h ∷ hs) t =
     (five (λ s. freed (settle (record { at = h .at; nbytes = h .nbytes; state = s })) ≡ released (record { at = h .at; nbytes = h .nbytes; state = s })) refl refl refl refl refl (h .state) (t .0 .known))
     (map-released (a + h .nbytes) b hs (t .1))
 
-pub tiles-settle : (a b : ℕ) (hs : List Head) → Tiles a hs b → Tiles a (map settle hs) b
-tiles-settle a b [] t = t
-tiles-settle a b (h ∷ hs) t = (
-  record {
-    here = t .0 .here;
-    least = t .0 .least;
-    whole = t .0 .whole;
-    known = five (λ s. settle (record { at = h .at; nbytes = h .nbytes; state = s }) .state ≤ FREEING) (omega arith) (omega arith) (omega arith) (omega arith) (omega arith) (h .state) (t .0 .known);
-  },
-  tiles-settle (a + h .nbytes) b hs (t .1),
+-- with other states, of the five, the clumps tile as before
+tiles-states : (f : ℕ → ℕ) → ((s : ℕ) → s ≤ FREEING → f s ≤ FREEING) → (a b : ℕ) (hs : List Head) → Tiles a hs b → Tiles a (map (λ h. withState h (f (h .state))) hs) b
+tiles-states f g a b [] t = t
+tiles-states f g a b (h ∷ hs) t = (
+  record { here = t .0 .here; least = t .0 .least; whole = t .0 .whole; known = g (h .state) (t .0 .known) },
+  tiles-states f g (a + h .nbytes) b hs (t .1),
 )
 
+pub tiles-settle : (a b : ℕ) (hs : List Head) → Tiles a hs b → Tiles a (map settle hs) b
+tiles-settle = tiles-states settled (five (λ s. settled s ≤ FREEING) (omega arith) (omega arith) (omega arith) (omega arith) (omega arith))
+
 pub tiles-freed : (a b : ℕ) (hs : List Head) → Tiles a hs b → Tiles a (map freed hs) b
-tiles-freed a b [] t = t
-tiles-freed a b (h ∷ hs) t = (
-  record {
-    here = t .0 .here;
-    least = t .0 .least;
-    whole = t .0 .whole;
-    known = five (λ s. freed (record { at = h .at; nbytes = h .nbytes; state = s }) .state ≤ FREEING) (omega arith) (omega arith) (omega arith) (omega arith) (omega arith) (h .state) (t .0 .known);
-  },
-  tiles-freed (a + h .nbytes) b hs (t .1),
-)
+tiles-freed = tiles-states unreserved (five (λ s. unreserved s ≤ FREEING) (omega arith) (omega arith) (omega arith) (omega arith) (omega arith))
+
+pub tiles-released : (a b : ℕ) (hs : List Head) → Tiles a hs b → Tiles a (map released hs) b
+tiles-released a b hs t = subst (λ (ks : List Head). Tiles a ks b) (map-released a b hs t) (tiles-freed a b (map settle hs) (tiles-settle a b hs t))
 
 -- a clump that is not unfinished stays
 settle-idle : (h : Head) → isPending h ≡ false → settle h ≡ h
@@ -70,27 +71,13 @@ map-split [] h q e f = ap (λ (ks : List Head). settle h ∷ ks) (map-idle q f)
 map-split (k ∷ p) h q e f = ap₂ _∷_ (settle-idle k (e .0)) (map-split p h q (e .1) f)
 
 -- the one unfinished clump: no other is
-those-pass : (p q : List Head) → Each (λ k. isPending k ≡ false) p → those isPending (p ++ q) ≡ those isPending q
-unfolding those
-those-pass [] q e = refl
-those-pass (k ∷ p) q e = rw (e .0) (those-pass p q (e .1))
-
-those-none : (hs : List Head) → those isPending hs ≡ [] → Each (λ k. isPending k ≡ false) hs
-unfolding those
-those-none [] e = tt
-those-none (h ∷ hs) e = go (isPending h) refl e (those-none hs)
-  where
-    go : (t : Bool) → isPending h ≡ t → cond t (h ∷ those isPending hs) (those isPending hs) ≡ [] → (those isPending hs ≡ [] → Each (λ k. isPending k ≡ false) hs) → Each (λ k. isPending k ≡ false) (h ∷ hs)
-    go true q f ih = absurd (let z : _≡_ {A = ℕ} 0 1 = cc in omega arith)
-    go false q f ih = (q, ih f)
-
 second-none : (h : Head) (ks : List Head) → second (h ∷ ks) ≡ none → ks ≡ []
 second-none h [] e = refl
 second-none h (k ∷ ks) e = some-none refl e
 
 pub others-idle : (p : List Head) (h : Head) (q : List Head) → secondFault (p ++ (h ∷ q)) ≡ none → Each (λ k. isPending k ≡ false) p → isPending h ≡ true → Each (λ k. isPending k ≡ false) q
 unfolding secondFault those
-others-idle p h q e f g = those-none q (second-none h (those isPending q) (rw (those-pass p (h ∷ q) f, g) at e))
+others-idle p h q e f g = nil-those isPending q (second-none h (those isPending q) (rw (those-append isPending p (h ∷ q), those-nil isPending p f, g) at e))
 
 -- the targets that are carried out miss the headers
 pub targets-valid : (m : Mem) (hs : List Head) (h : Head) → seek isPending hs ≡ some h → targetFault m hs ≡ none → allValid m hs h ≡ true
@@ -101,26 +88,15 @@ targets-valid m hs h e f = go (allValid m hs h) refl (rw e at f)
     go true q g = q
     go false q g = some-none refl g
 
-pub all-each : (q : ℕ → Bool) (sl : List ℕ) → all q sl ≡ true → Each (λ s. q s ≡ true) sl
-unfolding all
-all-each q [] e = tt
-all-each q (s ∷ sl) e = let x = and-both (q s) (all q sl) e in (x .0, all-each q sl (x .1))
-
 entries-clear : (n : ℕ) (m : Mem) (hs : List Head) (sl : List ℕ) → Tiles clumpsAt hs n → Each (λ s. isValid hs (m s) ≡ true) sl → Each (λ s. Clear (s .to) hs) (map (entry m) sl)
-entries-clear n m hs [] t e = tt
-entries-clear n m hs (s ∷ sl) t e = (valid-clear n (m s) hs t (e .0), entries-clear n m hs sl t (e .1))
+entries-clear n m hs sl t e =
+    map-each (λ s. Clear (s .to) hs) (entry m) sl (each-map (λ s. isValid hs (m s) ≡ true) (λ s. Clear (m s) hs) sl (λ s v. valid-clear n (m s) hs t v) e)
 
 emptying-clear : (m : Mem) (a b : ℕ) (p : List Head) (h : Head) (q : List Head) (sl : List ℕ) → Tiles a (p ++ (h ∷ q)) b → Each (λ s. (h .at + 16 ≤ s) × (s < h .at + h .nbytes)) sl → Each (λ s. Clear (s .to) (p ++ (h ∷ q))) (emptying (those (isUsed m) sl))
-unfolding those
-emptying-clear m a b p h q [] t e = tt
-emptying-clear m a b p h q (s ∷ sl) t e = go (isUsed m s) (emptying-clear m a b p h q sl t (e .1))
-  where
-    go :
-        (u : Bool)
-        → Each (λ x. Clear (x .to) (p ++ (h ∷ q))) (emptying (those (isUsed m) sl))
-        → Each (λ x. Clear (x .to) (p ++ (h ∷ q))) (emptying (cond u (s ∷ those (isUsed m) sl) (those (isUsed m) sl)))
-    go true r = (clear-header a b s p h q t (e .0 .0) (e .0 .1), r)
-    go false r = r
+emptying-clear m a b p h q sl t e =
+    map-each (λ s. Clear (s .to) (p ++ (h ∷ q))) (λ s. store s 0) (those (isUsed m) sl)
+    (those-each (λ s. Clear s (p ++ (h ∷ q))) (isUsed m) sl
+    (each-map (λ s. (h .at + 16 ≤ s) × (s < h .at + h .nbytes)) (λ s. Clear s (p ++ (h ∷ q))) sl (λ s f. clear-header a b s p h q t (f .0) (f .1)) e))
 
 -- the headers after the unfinished clump is finished
 module _ (n : ℕ) (m : Mem) (p : List Head) (h : Head) (q : List Head) (t : Tiles clumpsAt (p ++ (h ∷ q)) n) (r : Reads m (p ++ (h ∷ q))) (v : allValid m (p ++ (h ∷ q)) h ≡ true) where
@@ -140,10 +116,6 @@ module _ (n : ℕ) (m : Mem) (p : List Head) (h : Head) (q : List Head) (t : Til
   unfolding finishFreeing after
   dropped = rw (after-append m (entries m (h .at)) (setState h FREE ∷ [])) (reads-state _ FREE clumpsAt n p h q t assigned)
 
-tiles-at : (a b : ℕ) (p : List Head) (h : Head) (q : List Head) → Tiles a (p ++ (h ∷ q)) b → 128 ≤ h .nbytes
-tiles-at a b [] h q t = t .0 .least
-tiles-at a b (k ∷ p) h q t = tiles-at (a + k .nbytes) b p h q (t .1)
-
 pub finish-reads : (n : ℕ) (m : Mem) (hs : List Head) → Tiles clumpsAt hs n → Reads m hs → secondFault hs ≡ none → targetFault m hs ≡ none → Reads (after m (finishing m (seek isPending hs))) (map settle hs)
 unfolding after
 finish-reads n m hs t r s f = go (seek isPending hs) refl
@@ -157,7 +129,7 @@ finish-reads n m hs t r s f = go (seek isPending hs) refl
         let r′ = subst (Reads m) w r in
         let v′ = subst (λ (ks : List Head). allValid m ks h ≡ true) w (targets-valid m hs h e f) in
         let i = others-idle (x .lower) h (x .higher) (subst (λ (ks : List Head). secondFault ks ≡ none) w s) (x .before) (x .passes) in
-        let l = tiles-at clumpsAt n (x .lower) h (x .higher) t′ in
+        let l = tiles-split clumpsAt n (x .lower) (h ∷ x .higher) t′ .2 .0 .least in
         subst (λ (ks : List Head). Reads (after m (finishing m (some h))) (map settle ks)) (sym w)
         (rw (map-split (x .lower) h (x .higher) (x .before) i) (pick x t′ r′ v′ l (hasState ACTIVATING h) refl))
       where

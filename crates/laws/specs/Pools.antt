@@ -1,17 +1,29 @@
--- What a granted request tells of the image: each test before it failed. By cases on the tests. Assumes nothing.
+-- What a granted request tells of the image: each test before it failed. By cases on the tests; with what an answer without a store is.
+-- Assumes nothing.
 use Prim.Native.Nat.{ℕ, _%_, _<_, _≤_}
 use mathlib.Core.Path.{_≡_, refl}
 use mathlib.Core.Bool.{Bool, true, false, not}
 use mathlib.Core.Option.{Option, some, none}
 use mathlib.Core.List.{List, []}
 use native.Mathlib.Omega.{arith}
-use borrow.Author.Tests.{leb-true, eqb-true, not-false}
+use lib.Seq.{take-nil}
+use borrow.Author.Tests.{leb-true, le-ltb, eqb-true, not-false}
+use Rattle.rules.specs.declared.Answer.{Answer}
 use Rattle.rules.specs.Words.{Mem, Store}
-use Rattle.rules.specs.Pages.{leastLength, mostLength, unit, rightLength, isPool}
-use Rattle.rules.specs.Clumps.{walk}
+use Rattle.rules.specs.Pages.{clumpsAt, leastLength, mostLength, unit, rightLength, isPool}
+use Rattle.rules.specs.Clumps.{Tiles, walk}
 use Rattle.rules.specs.Sound.{Fault, judge, unsettled}
 use Rattle.rules.specs.Answers.{done, notPool, notSettled, answerOf, Verdict, refused, granted, test, testFault, ifSound, ifSettled}
 use Rattle.laws.specs.Searches.{and-both}
+use Rattle.laws.specs.Walks.{sound-tiles}
+
+-- an answer without a store, and the one of a grant that has none
+abbrev pub answerIs : ℕ → ℕ → ℕ → Answer
+answerIs a p f = record { answer = a; place = p; fault = f; stores = 0 }
+
+pub granted-none : (fuse : ℕ) → answerIs 0 0 0 ≡ answerOf fuse (granted 0 [])
+unfolding answerOf
+granted-none fuse = rw (le-ltb fuse 0 (omega arith), take-nil fuse)
 
 -- a refusal is no grant
 pub never-granted {ℓ} : {B : Type ℓ} {a q f p : ℕ} {st : List Store} → refused a q f ≡ granted p st → B
@@ -29,14 +41,16 @@ right-length n e =
     let b = and-both _ _ (a .0) in
     record { least = leb-true leastLength n (b .0); most = leb-true n mostLength (b .1); whole = eqb-true (n % unit) 0 (a .1) }
 
-pub pool-length : (n : ℕ) (m : Mem) → isPool n m ≡ true → RightLength n
+pub pool-right : (n : ℕ) (m : Mem) → isPool n m ≡ true → rightLength n ≡ true
 unfolding isPool
-pool-length n m e =
+pool-right n m e =
     let a = and-both _ _ e in
     let b = and-both _ _ (a .0) in
     let c = and-both _ _ (b .0) in
-    let d = and-both _ _ (c .0) in
-    right-length n (d .0)
+    and-both _ _ (c .0) .0
+
+pub pool-length : (n : ℕ) (m : Mem) → isPool n m ≡ true → RightLength n
+pool-length n m e = right-length n (pool-right n m e)
 
 pub test-granted : (b : Bool) (a p : ℕ) (v : Verdict) (st : List Store) → test b a v ≡ granted p st → (b ≡ false) × (v ≡ granted p st)
 test-granted true a p v st e = never-granted e
@@ -50,6 +64,10 @@ fault-granted (some f) p v st e = never-granted e
 pub record Sound (n : ℕ) (m : Mem) : Type 0 where
   pub pool : isPool n m ≡ true
   pub sound : judge n m ≡ none
+
+-- a sound pool's clumps tile
+pub pool-tiles : (n : ℕ) (m : Mem) → Sound n m → Tiles clumpsAt (walk n m) n
+pool-tiles n m s = sound-tiles n m (omega (arith, pool-length n m (s .pool) .least)) (s .sound)
 
 pub sound-granted : (n : ℕ) (m : Mem) (p : ℕ) (v : Verdict) (st : List Store) → ifSound n m v ≡ granted p st → Sound n m × (v ≡ granted p st)
 unfolding ifSound

@@ -2,11 +2,12 @@
 use mathlib.Core.Path.{_≡_, refl, sym, ap, _∙_, subst}
 use mathlib.Core.Bool.{Bool, true, false, cond, _&&_, _||_, or-true}
 use mathlib.Core.Option.{Option, some, none}
-use mathlib.Core.List.{List, [], _∷_, _++_}
+use mathlib.Core.List.{List, [], _∷_, _++_, map}
 use Prim.Native.Nat.{ℕ, zero, suc}
 use native.Mathlib.Omega.{arith}
-use lib.ListN.{drop}
+use lib.ListN.{take, drop}
 use Rattle.rules.specs.Lists.{seek, those, any, all, Each}
+use Rattle.rules.specs.Stores.{lastOf}
 
 -- a Bool is not both
 pub differ {ℓ} : {A : Type ℓ} {b : Bool} → b ≡ true → b ≡ false → A
@@ -120,6 +121,16 @@ module _ {A : Type 0} where
   each-map P Q [] h f = tt
   each-map P Q (x ∷ xs) h f = (h x (f .0), each-map P Q xs h (f .1))
 
+  pub map-each : {B : Type 0} (Q : B → Type 0) (f : A → B) (xs : List A) → Each (λ x. Q (f x)) xs → Each Q (map f xs)
+  map-each Q f [] e = tt
+  map-each Q f (x ∷ xs) e = (e .0, map-each Q f xs (e .1))
+
+  -- each of the first k
+  pub each-take : (P : A → Type 0) (k : ℕ) (xs : List A) → Each P xs → Each P (take k xs)
+  each-take P zero xs f = tt
+  each-take P (suc k) [] f = tt
+  each-take P (suc k) (x ∷ xs) f = (f .0, each-take P k xs (f .1))
+
   -- some element passes exactly where a search finds one
   pub any-hit : (p : A → Bool) (x : A) (xs : List A) → p x ≡ true → any p (x ∷ xs) ≡ true
   unfolding any
@@ -157,6 +168,12 @@ module _ {A : Type 0} where
   unfolding all
   all-same p q [] e = refl
   all-same p q (x ∷ xs) e = rw (e .0, all-same p q xs (e .1))
+
+  -- all pass
+  pub all-each : (p : A → Bool) (xs : List A) → all p xs ≡ true → Each (λ x. p x ≡ true) xs
+  unfolding all
+  all-each p [] e = tt
+  all-each p (x ∷ xs) e = let r = and-both (p x) (all p xs) e in (r .0, all-each p xs (r .1))
 
   -- what passes, with what holds of each
   pub any-each : (P : A → Type 0) (p : A → Bool) (hs : List A) → any p hs ≡ true → Each P hs → (h : A) × (p h ≡ true) × P h
@@ -203,3 +220,8 @@ module _ {A : Type 0} where
           → cond b (x ∷ those p (xs ++ ys)) (those p (xs ++ ys)) ≡ cond b (x ∷ those p xs) (those p xs) ++ those p ys
       go true r = ap (λ (l : List A). x ∷ l) r
       go false r = r
+
+-- what holds of each holds of the last
+pub last-each : (P : ℕ → Type 0) (s : ℕ) (sl : List ℕ) → P s → Each P sl → P (lastOf s sl)
+last-each P s [] e f = e
+last-each P s (t ∷ sl) e f = last-each P t sl (f .0) (f .1)

@@ -1,21 +1,20 @@
 -- What stores do to the headers that a memory holds: a store that misses every size and state word keeps them, a valid target misses
 -- them all, and a store of a state changes one clump. By induction on the clumps. Assumes nothing.
 use Prim.Native.Nat.{ℕ, _+_, _<_, _≤_}
-use mathlib.Core.Path.{_≡_, refl, _∙_}
-use mathlib.Core.Bool.{Bool, true, false, _&&_, _||_}
+use mathlib.Core.Path.{_≡_, _∙_}
+use mathlib.Core.Bool.{true}
+use mathlib.Core.Logic.{⊎-elim}
 use mathlib.Core.List.{List, [], _∷_, _++_}
 use native.Mathlib.Omega.{arith}
-use lib.Dec.{leb}
-use borrow.Author.Tests.{leb-true}
-use Rattle.rules.specs.Lists.{any, Each}
-use Rattle.rules.specs.Words.{Mem, Store, upd, after, wordBytes}
-use Rattle.rules.specs.Pages.{clumpsAt, staticAt, staticEnd}
-use Rattle.rules.specs.Clumps.{Head, stateAt, bodyOf, endOf, isLive, Tiles, FREEING}
-use Rattle.rules.specs.Sound.{isEven, lies, isValid}
+use Rattle.rules.specs.Lists.{Each}
+use Rattle.rules.specs.Words.{Mem, Store, upd, after}
+use Rattle.rules.specs.Pages.{clumpsAt}
+use Rattle.rules.specs.Clumps.{Head, stateAt, Tiles, FREEING}
+use Rattle.rules.specs.Sound.{isValid}
 use Rattle.word.specs.Memory.{upd-same, upd-other}
-use Rattle.laws.specs.Searches.{differ, and-both}
 use Rattle.laws.specs.Tilings.{tiles-le, tiles-split}
 use Rattle.laws.specs.Walks.{Reads}
+use Rattle.laws.specs.Bodies.{Off, valid-off}
 
 abbrev pub withState : Head → ℕ → Head
 withState h s = record { at = h .at; nbytes = h .nbytes; state = s }
@@ -85,43 +84,15 @@ pub tiles-state : (w a b : ℕ) (p : List Head) (h : Head) (q : List Head) → w
 tiles-state w a b [] h q k t = (record { here = t .0 .here; least = t .0 .least; whole = t .0 .whole; known = k }, t .1)
 tiles-state w a b (g ∷ p) h q k t = (t .0, tiles-state w (a + g .nbytes) b p h q k (t .1))
 
--- the word at t lies in a body of a live clump
-abbrev holds : ℕ → Head → Bool
-holds t h = isLive h && lies (bodyOf h) (endOf h) t
-
-holds-in : (t : ℕ) (h : Head) → holds t h ≡ true → (bodyOf h ≤ t) × (t + wordBytes ≤ endOf h)
-holds-in t h e =
-    let x = and-both (isLive h) _ e .1 in
-    let y = and-both (leb (bodyOf h) t) _ x in
-    (leb-true (bodyOf h) t (y .0), leb-true (t + wordBytes) (endOf h) (y .1))
-
-held-above : (a b t : ℕ) (hs : List Head) → Tiles a hs b → any (holds t) hs ≡ true → a ≤ t
-unfolding any
-held-above a b t [] s e = differ e refl
-held-above a b t (h ∷ hs) s e = go (holds t h) refl e (held-above (a + h .nbytes) b t hs (s .1))
-  where
-    go : (c : Bool) → holds t h ≡ c → (c || any (holds t) hs) ≡ true → (any (holds t) hs ≡ true → a + h .nbytes ≤ t) → a ≤ t
-    go true q f ih = let x = holds-in t h q in omega (arith, s .0 .here)
-    go false q f ih = let x = ih f in omega arith
-
-held-clear : (a b t : ℕ) (hs : List Head) → Tiles a hs b → any (holds t) hs ≡ true → Clear t hs
-unfolding any
-held-clear a b t [] s e = tt
-held-clear a b t (h ∷ hs) s e = go (holds t h) refl e (held-clear (a + h .nbytes) b t hs (s .1))
-  where
-    go : (c : Bool) → holds t h ≡ c → (c || any (holds t) hs) ≡ true → (any (holds t) hs ≡ true → Clear t hs) → Clear t (h ∷ hs)
-    go true q f ih =
-        let x = holds-in t h q in
-        (omega arith, omega arith, clear-below t (a + h .nbytes) b hs (s .1) (omega (arith, s .0 .here)))
-    go false q f ih =
-        let x = held-above (a + h .nbytes) b t hs (s .1) f in
-        (omega (arith, s .0 .here, s .0 .least), omega (arith, s .0 .here, s .0 .least), ih f)
+-- a byte that lies in no header is in no size or state word
+off-clear : (i : ℕ) (hs : List Head) → Each (Off i) hs → Clear i hs
+off-clear i [] f = tt
+off-clear i (h ∷ hs) f = (
+  ⊎-elim (λ x. omega arith) (λ x. omega arith) (f .0 .header),
+  ⊎-elim (λ x. omega arith) (λ x. omega arith) (f .0 .header),
+  off-clear i hs (f .1),
+)
 
 -- a valid target is in no header
 pub valid-clear : (n t : ℕ) (hs : List Head) → Tiles clumpsAt hs n → isValid hs t ≡ true → Clear t hs
-unfolding isValid
-valid-clear n t hs s e = go (lies staticAt staticEnd t) refl (and-both (isEven t) _ e .1)
-  where
-    go : (c : Bool) → lies staticAt staticEnd t ≡ c → (c || any (holds t) hs) ≡ true → Clear t hs
-    go true q f = let x = leb-true (t + wordBytes) staticEnd (and-both (leb staticAt t) _ q .1) in clear-below t clumpsAt n hs s (omega arith)
-    go false q f = held-clear clumpsAt n t hs s f
+valid-clear n t hs s e = off-clear t hs (valid-off n t hs s e)

@@ -13,8 +13,7 @@ use Rattle.rules.specs.Answers.{granted, ifSound, bytesOf, totalOf}
 use Rattle.rules.specs.Requests.{verdict}
 use Rattle.rules.specs.Demands.{TotalsAdd}
 use Rattle.rules.specs.declared.Request.the-variants.{Check}
-use Rattle.laws.specs.Walks.{sound-tiles}
-use Rattle.laws.specs.Pools.{check-sound, pool-length}
+use Rattle.laws.specs.Pools.{check-sound, pool-tiles}
 
 -- a tiling is as long as its clumps together
 pub tiles-bytes : (a b : ℕ) (hs : List Head) → Tiles a hs b → a + bytesOf hs ≡ b
@@ -54,7 +53,6 @@ totals-add img fuse e =
     let n = length img in
     let m = mem img in
     let s = check-sound n m fuse e in
-    let l = pool-length n m (s .pool) in
-    let t = sound-tiles n m (omega arith) (s .sound) in
+    let t = pool-tiles n m s in
     let v : verdict n m Check ≡ granted 0 [] = rw (s .pool, s .sound) in
     rw v (states-bytes clumpsAt n (walk n m) t ∙ omega (arith, tiles-bytes clumpsAt n (walk n m) t))

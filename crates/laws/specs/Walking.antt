@@ -12,7 +12,7 @@ use Rattle.rules.specs.Pages.{clumpsAt, unit}
 use Rattle.rules.specs.Clumps.{Head, head, stateAt, leastClump, FREEING, Tiles, walk}
 use Rattle.laws.specs.Searches.{seek-each}
 use Rattle.laws.specs.Tilings.{tiles-le}
-use Rattle.laws.specs.Walks.{Rest, rest-start, rest-end, rest-step, heads-read, Reads}
+use Rattle.laws.specs.Walks.{Rest, rest-start, rest-end, rest-step, Reads, walk-reads}
 
 pub record Walking {A : Type 0} (f : List Head → A) (n : ℕ) (m : Mem) (h : ℕ) (g : A) : Type 0 where
   pub rest : List Head
@@ -88,8 +88,7 @@ each-placed n a m (h ∷ hs) l u t r =
     )
 
 pub all-placed : (n : ℕ) (m : Mem) → Tiles clumpsAt (walk n m) n → Each (Placed n m) (walk n m)
-unfolding walk
-all-placed n m t = each-placed n clumpsAt m (walk n m) (omega arith) refl t (heads-read n n clumpsAt m)
+all-placed n m t = each-placed n clumpsAt m (walk n m) (omega arith) refl t (walk-reads n m)
 
 pub seek-placed : (n : ℕ) (m : Mem) (p : Head → Bool) (h : Head) → Tiles clumpsAt (walk n m) n → seek p (walk n m) ≡ some h → Placed n m h
 seek-placed n m p h t e = seek-each (Placed n m) p (walk n m) h e (all-placed n m t)

@@ -137,6 +137,10 @@ heads-read (suc k) n a m = go (ltb a n) (heads-read k n (a + m a) m)
     go true r = (refl, refl, r)
     go false r = tt
 
+pub walk-reads : (n : ℕ) (m : Mem) → Reads m (walk n m)
+unfolding walk
+walk-reads n m = heads-read n n clumpsAt m
+
 head-is : (a : ℕ) (m : Mem) (h : Head) → h .at ≡ a → m (h .at) ≡ h .nbytes → m (stateAt (h .at)) ≡ h .state → head m a ≡ h
 head-is a m h e p q =
     let p′ : m a ≡ h .nbytes = rw (← e) p in
@@ -154,3 +158,7 @@ walk-finds (suc k) n a m (h ∷ hs) t r g =
     let e = head-is a m h (t .0 .here) (r .0) (r .1) in
     rw (lt-ltb a n (omega arith), headsFrom)
     (ap₂ _∷_ e (ap (λ (x : Head). headsFrom k n m (a + x .nbytes)) e ∙ walk-finds k n (a + h .nbytes) m hs (t .1) (r .2) (omega arith)))
+
+pub walk-is : (n : ℕ) (m : Mem) (hs : List Head) → Tiles clumpsAt hs n → Reads m hs → walk n m ≡ hs
+unfolding walk
+walk-is n m hs t r = walk-finds n n clumpsAt m hs t r (omega arith)

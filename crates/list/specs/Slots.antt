@@ -1,13 +1,14 @@
 -- The first empty and the last used entry of a list that was read, and a law for each way out of the requests on it.
 -- Assumes nothing.
-use Prim.Native.Nat.{ℕ, _+_, _%_, _≤_}
-use mathlib.Core.Path.{_≡_, refl, sym, ap}
+use Prim.Native.Nat.{ℕ, _+_, _%_, _<_, _≤_}
+use mathlib.Core.Path.{_≡_, refl}
 use mathlib.Core.Bool.{Bool, true, false, cond, not}
 use mathlib.Core.Option.{Option, some, none}
 use mathlib.Core.List.{List, [], _∷_}
 use native.Mathlib.Omega.{arith}
 use lib.Dec.{eqb}
 use lib.ListN.{getD}
+use borrow.Author.Tests.{eq-eqb, ne-eqb}
 use Rattle.rules.specs.Lists.{seek, those}
 use Rattle.rules.specs.Words.{Mem, store}
 use Rattle.rules.specs.Clumps.{Head, hasState, isWaiting, isEmpty, slots, usedSlots}
@@ -15,92 +16,61 @@ use Rattle.rules.specs.Sound.{isValid}
 use Rattle.rules.specs.Answers.{granted, refuse, wrongState, listFull, listEmpty, badTarget}
 use Rattle.rules.specs.Stores.{listStores}
 use Rattle.rules.specs.Requests.{enlist, withdrawn, withdraw}
-use Rattle.page.specs.Forms.{listAt}
+use Rattle.page.specs.Forms.{targetOf, listAt}
 
 -- where the first empty entry stands, 0 for none
 abbrev pub emptyIn : ℕ → List (List ℕ) → ℕ
-emptyIn h l = cond (eqb (getD (getD l 0 []) 0 0) 0) (h + 16) (cond (eqb (getD (getD l 1 []) 0 0) 0) (h + 32) (cond (eqb (getD (getD l 2 []) 0 0) 0) (h + 48) 0))
+emptyIn h l = cond (eqb (targetOf (getD l 0 [])) 0) (h + 16) (cond (eqb (targetOf (getD l 1 [])) 0) (h + 32) (cond (eqb (targetOf (getD l 2 [])) 0) (h + 48) 0))
 
 -- where the last used entry stands, 0 for none
 abbrev pub lastIn : ℕ → List (List ℕ) → ℕ
-lastIn h l = cond (eqb (getD (getD l 2 []) 0 0) 0) (cond (eqb (getD (getD l 1 []) 0 0) 0) (cond (eqb (getD (getD l 0 []) 0 0) 0) 0 (h + 16)) (h + 32)) (h + 48)
+lastIn h l = cond (eqb (targetOf (getD l 2 [])) 0) (cond (eqb (targetOf (getD l 1 [])) 0) (cond (eqb (targetOf (getD l 0 [])) 0) 0 (h + 16)) (h + 32)) (h + 48)
 
 -- what the two offsets tell: s is where the entry stands in the list l that was read from the clump at h
 module _ (m : Mem) (h s : ℕ) (l : List (List ℕ)) (is : l ≡ listAt m h) where
-  pub empty-none : s ≡ emptyIn h l → s ≡ 0 → seek (isEmpty m) (slots h) ≡ none
+  pub empty-is : s ≡ emptyIn h l → seek (isEmpty m) (slots h) ≡ cond (eqb s 0) none (some s)
   unfolding seek
-  empty-none e z = go (isEmpty m (h + 16)) (isEmpty m (h + 32)) (isEmpty m (h + 48)) (rw is at e)
+  empty-is e = go (isEmpty m (h + 16)) (isEmpty m (h + 32)) (isEmpty m (h + 48)) (rw is at e)
     where
+      at : (x : ℕ) → s ≡ x → 0 < x → some x ≡ cond (eqb s 0) none (some s)
+      at x f u = rw (f, ne-eqb x 0 (omega arith))
+
       go :
           (t u v : Bool)
           → s ≡ cond t (h + 16) (cond u (h + 32) (cond v (h + 48) 0))
           → _≡_ {A = Option ℕ}
           (elim t [ true ↦ some (h + 16) | false ↦ elim u [ true ↦ some (h + 32) | false ↦ elim v [ true ↦ some (h + 48) | false ↦ none ] ] ])
-          none
-      go true u v f = absurd (omega arith)
-      go false true v f = absurd (omega arith)
-      go false false true f = absurd (omega arith)
-      go false false false f = refl
+          (cond (eqb s 0) none (some s))
+      go true u v f = at _ f (omega arith)
+      go false true v f = at _ f (omega arith)
+      go false false true f = at _ f (omega arith)
+      go false false false f = rw f
 
-  pub empty-some : s ≡ emptyIn h l → (s ≡ 0 → ⊥) → seek (isEmpty m) (slots h) ≡ some s
-  unfolding seek
-  empty-some e z = go (isEmpty m (h + 16)) (isEmpty m (h + 32)) (isEmpty m (h + 48)) (rw is at e)
-    where
-      go :
-          (t u v : Bool)
-          → s ≡ cond t (h + 16) (cond u (h + 32) (cond v (h + 48) 0))
-          → _≡_ {A = Option ℕ}
-          (elim t [ true ↦ some (h + 16) | false ↦ elim u [ true ↦ some (h + 32) | false ↦ elim v [ true ↦ some (h + 48) | false ↦ none ] ] ])
-          (some s)
-      go true u v f = ap {B = Option ℕ} some (sym f)
-      go false true v f = ap {B = Option ℕ} some (sym f)
-      go false false true f = ap {B = Option ℕ} some (sym f)
-      go false false false f = absurd (z f)
-
-  pub withdrawn-none : (o : ℕ) → s ≡ lastIn h l → s ≡ 0 → withdrawn (usedSlots m h) o ≡ refuse listEmpty
+  pub withdrawn-is : (o : ℕ) → s ≡ lastIn h l → withdrawn (usedSlots m h) o ≡ cond (eqb s 0) (refuse listEmpty) (granted o (store s 0 ∷ []))
   unfolding those
-  withdrawn-none o e z = go (isEmpty m (h + 16)) (isEmpty m (h + 32)) (isEmpty m (h + 48)) (rw is at e)
+  withdrawn-is o e = go (isEmpty m (h + 16)) (isEmpty m (h + 32)) (isEmpty m (h + 48)) (rw is at e)
     where
-      go :
-          (t u v : Bool)
-          → s ≡ cond v (cond u (cond t 0 (h + 16)) (h + 32)) (h + 48)
-          → let k = cond (not v) ((h + 48) ∷ []) [] in
-          let j = cond (not u) ((h + 32) ∷ k) k in
-          withdrawn (cond (not t) ((h + 16) ∷ j) j) o ≡ refuse listEmpty
-      go true true true f = refl
-      go true true false f = absurd (omega arith)
-      go true false true f = absurd (omega arith)
-      go true false false f = absurd (omega arith)
-      go false true true f = absurd (omega arith)
-      go false true false f = absurd (omega arith)
-      go false false true f = absurd (omega arith)
-      go false false false f = absurd (omega arith)
-
-  pub withdrawn-some : (o : ℕ) → s ≡ lastIn h l → (s ≡ 0 → ⊥) → withdrawn (usedSlots m h) o ≡ granted o (store s 0 ∷ [])
-  unfolding those
-  withdrawn-some o e z = go (isEmpty m (h + 16)) (isEmpty m (h + 32)) (isEmpty m (h + 48)) (rw is at e)
-    where
-      to : (x : ℕ) → s ≡ x → granted o (store x 0 ∷ []) ≡ granted o (store s 0 ∷ [])
-      to x f = ap (λ (i : ℕ). granted o (store i 0 ∷ [])) (sym f)
+      to : (x : ℕ) → s ≡ x → 0 < x → granted o (store x 0 ∷ []) ≡ cond (eqb s 0) (refuse listEmpty) (granted o (store s 0 ∷ []))
+      to x f u = rw (f, ne-eqb x 0 (omega arith))
 
       go :
           (t u v : Bool)
           → s ≡ cond v (cond u (cond t 0 (h + 16)) (h + 32)) (h + 48)
           → let k = cond (not v) ((h + 48) ∷ []) [] in
           let j = cond (not u) ((h + 32) ∷ k) k in
-          withdrawn (cond (not t) ((h + 16) ∷ j) j) o ≡ granted o (store s 0 ∷ [])
-      go true true true f = absurd (z f)
-      go true true false f = to _ f
-      go true false true f = to _ f
-      go true false false f = to _ f
-      go false true true f = to _ f
-      go false true false f = to _ f
-      go false false true f = to _ f
-      go false false false f = to _ f
+          withdrawn (cond (not t) ((h + 16) ∷ j) j) o ≡ cond (eqb s 0) (refuse listEmpty) (granted o (store s 0 ∷ []))
+      go true true true f = rw f
+      go true true false f = to _ f (omega arith)
+      go true false true f = to _ f (omega arith)
+      go true false false f = to _ f (omega arith)
+      go false true true f = to _ f (omega arith)
+      go false true false f = to _ f (omega arith)
+      go false false true f = to _ f (omega arith)
+      go false false false f = to _ f (omega arith)
 
 -- an entry stands in the header, at an offset divisible by 8
 pub empty-in : (h : ℕ) (l : List (List ℕ)) → (emptyIn h l ≡ 0 → ⊥) → h % 8 ≡ 0 → (h + 16 ≤ emptyIn h l) × (emptyIn h l ≤ h + 48) × (emptyIn h l % 8 ≡ 0)
-empty-in h l z e = go (eqb (getD (getD l 0 []) 0 0) 0) (eqb (getD (getD l 1 []) 0 0) 0) (eqb (getD (getD l 2 []) 0 0) 0) z
+empty-in h l z e = go (eqb (targetOf (getD l 0 [])) 0) (eqb (targetOf (getD l 1 [])) 0) (eqb (targetOf (getD l 2 [])) 0) z
   where
     go :
         (t u v : Bool)
@@ -113,7 +83,7 @@ empty-in h l z e = go (eqb (getD (getD l 0 []) 0 0) 0) (eqb (getD (getD l 1 []) 
     go false false false y = absurd (y refl)
 
 pub last-in : (h : ℕ) (l : List (List ℕ)) → (lastIn h l ≡ 0 → ⊥) → h % 8 ≡ 0 → (h + 16 ≤ lastIn h l) × (lastIn h l ≤ h + 48) × (lastIn h l % 8 ≡ 0)
-last-in h l z e = go (eqb (getD (getD l 0 []) 0 0) 0) (eqb (getD (getD l 1 []) 0 0) 0) (eqb (getD (getD l 2 []) 0 0) 0) z
+last-in h l z e = go (eqb (targetOf (getD l 0 [])) 0) (eqb (targetOf (getD l 1 [])) 0) (eqb (targetOf (getD l 2 [])) 0) z
   where
     go :
         (t u v : Bool)
@@ -132,18 +102,19 @@ module _ (m : Mem) (hs : List Head) (allowed o t v : ℕ) (h : Head) where
   enlist-state e = rw e
 
   module _ (state : hasState allowed h ≡ true) where
-    pub enlist-full : seek (isEmpty m) (slots (h .at)) ≡ none → enlist m hs allowed o t v h ≡ refuse listFull
-    unfolding enlist
-    enlist-full e = rw (state, e)
-
-    module _ (s : ℕ) (e : seek (isEmpty m) (slots (h .at)) ≡ some s) where
-      pub enlist-bad : isValid hs t ≡ false → enlist m hs allowed o t v h ≡ refuse badTarget
+    -- s is where the first empty entry stands, 0 for none
+    module _ (s : ℕ) (e : seek (isEmpty m) (slots (h .at)) ≡ cond (eqb s 0) none (some s)) where
+      pub enlist-full : s ≡ 0 → enlist m hs allowed o t v h ≡ refuse listFull
       unfolding enlist
-      enlist-bad f = rw (state, e, f)
+      enlist-full z = rw (state, e, eq-eqb s 0 z)
 
-      pub enlist-done : isValid hs t ≡ true → enlist m hs allowed o t v h ≡ granted o (listStores s t v)
+      pub enlist-bad : (s ≡ 0 → ⊥) → isValid hs t ≡ false → enlist m hs allowed o t v h ≡ refuse badTarget
       unfolding enlist
-      enlist-done f = rw (state, e, f)
+      enlist-bad z f = rw (state, e, ne-eqb s 0 z, f)
+
+      pub enlist-done : (s ≡ 0 → ⊥) → isValid hs t ≡ true → enlist m hs allowed o t v h ≡ granted o (listStores s t v)
+      unfolding enlist
+      enlist-done z f = rw (state, e, ne-eqb s 0 z, f)
 
 -- withdraw from a clump
 module _ (m : Mem) (o : ℕ) (h : Head) where
@@ -151,6 +122,12 @@ module _ (m : Mem) (o : ℕ) (h : Head) where
   unfolding withdraw
   withdraw-state e = rw e
 
-  pub withdraw-is : isWaiting h ≡ true → withdraw m o h ≡ withdrawn (usedSlots m (h .at)) o
-  unfolding withdraw
-  withdraw-is e = rw e
+  -- s is where the last used entry stands, 0 for none
+  module _ (state : isWaiting h ≡ true) (s : ℕ) (e : withdrawn (usedSlots m (h .at)) o ≡ cond (eqb s 0) (refuse listEmpty) (granted o (store s 0 ∷ []))) where
+    pub withdraw-empty : s ≡ 0 → withdraw m o h ≡ refuse listEmpty
+    unfolding withdraw
+    withdraw-empty z = rw (state, e, eq-eqb s 0 z)
+
+    pub withdraw-done : (s ≡ 0 → ⊥) → withdraw m o h ≡ granted o (store s 0 ∷ [])
+    unfolding withdraw
+    withdraw-done z = rw (state, e, ne-eqb s 0 z)

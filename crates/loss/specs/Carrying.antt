@@ -14,9 +14,8 @@ use Rattle.rules.specs.Pages.{clumpsAt}
 use Rattle.rules.specs.Clumps.{Head, endOf, stateAt, hasState, isPending, isUsed, slots, usedSlots, entries, ACTIVATING, FREEING, Tiles}
 use Rattle.rules.specs.Sound.{isValid, listBad}
 use Rattle.rules.specs.Stores.{emptying}
-use Rattle.laws.specs.Searches.{those-each, each-right, each-drop}
+use Rattle.laws.specs.Searches.{those-each, each-right, each-drop, each-take}
 use Rattle.laws.specs.Walks.{Reads}
-use Rattle.laws.specs.Named.{each-take}
 use Rattle.laws.specs.Headers.{AgreeAt, Agree, AgreePage, slots-same, used-same, entries-same, valid-same, pool-same}
 use Rattle.laws.specs.Stored.{reads-right}
 use Rattle.loss.specs.Fates.{Kept, fates, fates-agree, Beyond, Leads}

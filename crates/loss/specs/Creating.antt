@@ -20,9 +20,8 @@ use Rattle.rules.specs.Requests.{verdict, storesFor}
 use Rattle.rules.specs.PowerLoss.{CreateCut, Created}
 use Rattle.word.specs.Memory.{upd-same, mem-carry, length-carry}
 use Rattle.word.specs.Blank.{blank-bytes}
-use Rattle.laws.specs.Searches.{each-append}
-use Rattle.laws.specs.Named.{each-take}
-use Rattle.laws.specs.Landing.{create-land}
+use Rattle.laws.specs.Searches.{each-append, each-take}
+use Rattle.laws.specs.OneWord.{create-aligned}
 use Rattle.laws.specs.Pools.{right-length}
 use Rattle.loss.specs.Held.{Held, held-walk, idle-sound}
 use Rattle.loss.specs.Redo.{Other, Spares, after-spared}
@@ -108,7 +107,7 @@ pub create-cut : CreateCut
 create-cut img k r =
     let n = length img in
     let st = take k (createStores n) in
-    let a = each-take (Aligned n) k (createStores n) (create-land n (right-length n r)) in
+    let a = each-take (Aligned n) k (createStores n) (create-aligned n (right-length n r)) in
     rw (stores-are img r)
     (create-length n, λ p l. rw (length-carry img st, mem-carry img st a) (no-pool n (after (mem img) st) r (cut-low n k (mem img) p l)))
 
@@ -195,7 +194,7 @@ creation img r =
     let st = createStores n in
     let h = whole-held n r (mem img) in
     let s = idle-sound n (after (mem img) st) (whole n ∷ []) h (refl, tt) in
-    let e = mem-carry img st (create-land n (right-length n r)) in
+    let e = mem-carry img st (create-aligned n (right-length n r)) in
     let w = held-walk n (after (mem img) st) (whole n ∷ []) h in
     rw (stores-are img r) (
       record { pool = rw (length-carry img st, e) (s .pool); sound = rw (length-carry img st, e) (s .sound); calm = rw (length-carry img st, e, w) },

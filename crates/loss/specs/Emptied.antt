@@ -13,9 +13,8 @@ use Rattle.rules.specs.Clumps.{Head, isEmpty, isUsed, slots, valueAt, usedSlots
 use Rattle.rules.specs.Sound.{gapped, listBad}
 use Rattle.rules.specs.Stores.{emptying}
 use Rattle.word.specs.Memory.{upd-same, upd-other}
-use Rattle.laws.specs.Searches.{those-each, nil-those, none-any}
+use Rattle.laws.specs.Searches.{those-each, nil-those, none-any, each-take}
 use Rattle.laws.specs.Headers.{SameSlots, used-same, entries-same}
-use Rattle.laws.specs.Named.{each-take}
 use Rattle.loss.specs.Redo.{Spares, after-spared}
 
 -- each entry lies sixteen bytes or more above those before it

@@ -14,8 +14,7 @@ use Rattle.rules.specs.Clumps.{Head, isWaiting, isEmpty, isUsed, slots, valueAt
 use Rattle.rules.specs.Sound.{inPlace, gapped, listBad}
 use Rattle.rules.specs.Stores.{lastOf}
 use Rattle.word.specs.Memory.{upd-same, upd-other}
-use Rattle.laws.specs.Searches.{differ, or-neither, seek-hit, seek-pass, seek-each, any-none, none-any, any-same, each-map, those-each, those-nil, nil-those}
-use Rattle.laws.specs.Landing.{last-each}
+use Rattle.laws.specs.Searches.{differ, or-neither, seek-hit, seek-pass, seek-each, any-none, none-any, any-same, each-map, those-each, those-nil, nil-those, last-each}
 use Rattle.laws.specs.Headers.{gapped-same}
 use Rattle.loss.specs.Emptied.{Spaced}
 

@@ -14,7 +14,7 @@ use Rattle.rules.specs.declared.Request.the-variants.{Reserve}
 use Rattle.rules.specs.Lists.{seek, Each}
 use Rattle.rules.specs.Words.{Image, Mem, Store, Bytes, mem, after, wordValues}
 use Rattle.rules.specs.Pages.{clumpsAt}
-use Rattle.rules.specs.Clumps.{Head, headerBytes, bodyOf, endOf, isFree, isLive, RESERVED, Tiles, walk}
+use Rattle.rules.specs.Clumps.{Head, bodyOf, endOf, isFree, isLive, RESERVED, Tiles, walk}
 use Rattle.rules.specs.Sound.{unsettled}
 use Rattle.rules.specs.Answers.{Verdict, refuse, granted, answerOf, answerAt, done, sizeZero, noRoom, storesOf, ifSound, ifSettled}
 use Rattle.rules.specs.Stores.{needOf, fits, reserveStores}
@@ -23,9 +23,10 @@ use Rattle.rules.specs.Reading.{clumpsOf}
 use Rattle.rules.specs.Demands.{Apart, Fresh}
 use Rattle.word.specs.Memory.{length-carry}
 use Rattle.laws.specs.Searches.{differ, and-both, each-map, seek-at, seek-split, each-append}
-use Rattle.laws.specs.Landing.{found-lies}
 use Rattle.laws.specs.Tilings.{tiles-in}
 use Rattle.laws.specs.Pools.{Sound, done-test, done-settled}
+use Rattle.laws.specs.Needs.{need-body}
+use Rattle.laws.specs.Lying.{found-lies}
 use Rattle.loss.specs.Orders.{reserveOrder}
 use Rattle.loss.specs.Held.{held-walk}
 use Rattle.loss.specs.Parts.{Parted, parted-one}
@@ -47,11 +48,6 @@ granted-place fuse p st e = go (ltb fuse (length st)) e
 refused-done : (fuse : ℕ) → answerOf fuse (refuse noRoom) .answer ≡ done → ⊥
 unfolding answerOf
 refused-done fuse e = omega arith
-
--- need has room for the header and the size
-need-room : (size : ℕ) → headerBytes + size ≤ needOf size
-unfolding needOf
-need-room size = omega arith
 
 -- the clump j that reserve makes at the place of the FREE clump h
 module _ (n : ℕ) (p : List Head) (h : Head) (q : List Head) (j : Head) (r : List Head) (t : Tiles clumpsAt (p ++ (h ∷ q)) n) (free : isFree h ≡ true) (place : j .at ≡ h .at) (less : j .nbytes ≤ h .nbytes) where
@@ -97,7 +93,7 @@ module _ (img : Image) (size : ℕ) (b : Bytes img) (s : Sound (length img) (mem
 
   -- the size is a word
   number : size < wordValues
-  number = let l = found-lies (length img) (mem img) s (fits (needOf size)) h e in omega (arith, l .room, l .small, large .1, need-room size)
+  number = let l = found-lies (length img) (mem img) s (fits (needOf size)) h e in omega (arith, l .room, l .small, large .1, need-body size)
 
   left : Reserved (length img) (Owned (fates (mem img) (a .below ++ (h ∷ a .above)))) (fates (mem img) (a .below ++ (h ∷ a .above))) (mem img) (mem img) (a .below) h (a .above) (needOf size)
   left = placing (length img) (mem img) s u size z h e a
@@ -121,7 +117,7 @@ module _ (img : Image) (size : ℕ) (b : Bytes img) (s : Sound (length img) (mem
         left .clump,
         rw (clumps-are, place-is fuse d) (found-there (length img) (a .below) h (a .above) (left .clump) (left .above) t (large .0) (left .place) (left .less)),
         left .state,
-        omega (arith, left .room, need-room size),
+        omega (arith, left .room, need-body size),
         subst (Each (λ k. isLive k ≡ true → Apart (left .clump) k)) (sym (a .whole)) (apart (length img) (a .below) h (a .above) (left .clump) (left .above) t (large .0) (left .place) (left .less)),
       )
 

@@ -12,7 +12,7 @@ use borrow.Author.Tests.{ltb-false}
 use Rattle.rules.specs.declared.Request.{Request}
 use Rattle.rules.specs.declared.Request.the-variants.{Create, Reserve, Onactive, Onfree, Withdraw, Activate, Free, Check, Recover}
 use Rattle.rules.specs.Words.{Image, Mem, Store, Bytes, mem, after, carry}
-use Rattle.rules.specs.Pages.{headerAt, staticAt, staticEnd, rightLength, isPool}
+use Rattle.rules.specs.Pages.{headerAt, staticAt, staticEnd, rightLength}
 use Rattle.rules.specs.Clumps.{Head, bodyOf, endOf, isWaiting, walk}
 use Rattle.rules.specs.Sound.{unsettled}
 use Rattle.rules.specs.Requests.{Numbers, storesFor, cut, finished}
@@ -21,10 +21,10 @@ use Rattle.rules.specs.Traces.{Wrote, Recovering, isCreate, isCarriedThrough, C
 use Rattle.rules.specs.Demands.{Settled, Alike}
 use Rattle.rules.specs.PowerLoss.{AlwaysTiles, StaysSettled, ReadsAs}
 use Rattle.word.specs.Memory.{length-carry, bytes-carry}
-use Rattle.laws.specs.Searches.{and-both, or-neither, any-none, none-any, each-map}
+use Rattle.laws.specs.Searches.{or-neither, any-none, none-any, each-map}
 use Rattle.laws.specs.Headers.{pool-same, judge-same, walk-same}
 use Rattle.laws.specs.Independence.{above-within, agree-page, agree-headers}
-use Rattle.laws.specs.Pools.{Sound}
+use Rattle.laws.specs.Pools.{Sound, pool-right}
 use Rattle.loss.specs.Held.{sound-held, idle-sound}
 use Rattle.loss.specs.Fates.{Kept, Owned, Rests, Led}
 use Rattle.loss.specs.Calm.{one-more}
@@ -101,14 +101,6 @@ finished-serves img q s u c =
 -- creation, over any image of a right length
 created-serves : (img : Image) → Bytes img → rightLength (length img) ≡ true → Serves (finished img Create)
 created-serves img b e = record { bytes = bytes-carry img (storesFor img Create) b; settled = creation img e .0 }
-
-pool-right : (n : ℕ) (m : Mem) → isPool n m ≡ true → rightLength n ≡ true
-unfolding isPool
-pool-right n m e =
-    let a = and-both _ _ e in
-    let b = and-both _ _ (a .0) in
-    let c = and-both _ _ (b .0) in
-    and-both _ _ (c .0) .0
 
 asked-serves : (img : Image) (q : Request) → Serves img → Numbers q → Serves (finished img q)
 asked-serves img Create s u = created-serves img (s .bytes) (pool-right (length img) (mem img) (s .settled .pool))

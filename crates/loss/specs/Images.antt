@@ -13,9 +13,9 @@ use Rattle.rules.specs.Stores.{recoverStores}
 use Rattle.rules.specs.Requests.{Numbers, verdict, storesFor, cut, finished}
 use Rattle.rules.specs.Traces.{Recovering, begun, again}
 use Rattle.word.specs.Memory.{mem-carry, length-carry, bytes-carry}
-use Rattle.laws.specs.Landing.{one-word}
-use Rattle.laws.specs.Named.{each-take}
 use Rattle.laws.specs.Pools.{Sound}
+use Rattle.laws.specs.OneWord.{one-word}
+use Rattle.laws.specs.Searches.{each-take}
 use Rattle.loss.specs.Orders.{recoverOrder}
 use Rattle.loss.specs.Cuts.{every-cut}
 use Rattle.loss.specs.Fates.{Kept, Rests, Led}

@@ -24,16 +24,15 @@ use Rattle.rules.specs.Demands.{Accepted, entriesOf}
 use Rattle.rules.specs.PowerLoss.{Distinct, AllOrNone}
 use Rattle.word.specs.Memory.{upd-same, length-carry, bytes-carry}
 use Rattle.laws.specs.Searches.{each-map, each-both, seek-split}
-use Rattle.laws.specs.Landing.{found-lies}
 use Rattle.laws.specs.Pools.{Sound, done-test}
 use Rattle.laws.specs.Headers.{entries-same}
 use Rattle.laws.specs.Stored.{withState}
-use Rattle.laws.specs.Named.{Off, off}
+use Rattle.laws.specs.Lying.{found-lies}
 use Rattle.loss.specs.Cuts.{every-cut}
 use Rattle.loss.specs.Fates.{Kept, fates, Beyond, Led, resting}
 use Rattle.loss.specs.Parts.{front-slots}
 use Rattle.loss.specs.Redo.{after-spared}
-use Rattle.loss.specs.Targets.{valid-part, valid-entries}
+use Rattle.loss.specs.Targets.{valid-beyond, valid-entries}
 use Rattle.loss.specs.Owning.{rests-as}
 use Rattle.loss.specs.Turns.{activates}
 use Rattle.loss.specs.Requested.{Amid, amid}
@@ -99,7 +98,7 @@ module _ (img : Image) (offset : ℕ) (h : Head) (s : Serves img) (e : finder (c
   targets =
       let v = subst (λ (gs : List Head). allValid m gs h ≡ true) (place .whole) (passed .1) in
       each-map (λ t. isValid hs (t .to) ≡ true) (λ t. Each (Beyond (t .to)) hs) (entries m (h .at))
-      (λ t c. each-map (Off (t .to)) (Beyond (t .to)) hs (λ g o. o .header) (off n (t .to) hs (place .held .tiles) (valid-part hs (t .to) c))) (valid-entries m hs h v)
+      (λ t c. valid-beyond n (t .to) hs (place .held .tiles) c) (valid-entries m hs h v)
 
   -- before the first store: nothing is assigned
   untouched : Leading n (λ o. Each (Beyond o) hs) (fates m hs) m img

@@ -2,7 +2,7 @@
 -- first tells recovery nothing. By the laws of a list under one store. Assumes nothing.
 use Prim.Native.Nat.{ℕ, _+_, _-_, _%_, _<_, _≤_}
 use mathlib.Core.Path.{_≡_, refl, ap, subst, _∙_}
-use mathlib.Core.Bool.{Bool, true, false, _&&_, _||_}
+use mathlib.Core.Bool.{Bool, true, false, _||_}
 use mathlib.Core.Logic.{⊎-elim}
 use mathlib.Core.Option.{some}
 use mathlib.Core.List.{List, [], _∷_, _++_}
@@ -13,11 +13,10 @@ use Rattle.rules.specs.Lists.{seek, any, Each}
 use Rattle.rules.specs.Words.{Mem, upd, wordBytes}
 use Rattle.rules.specs.Pages.{clumpsAt, staticAt, staticEnd}
 use Rattle.rules.specs.Clumps.{Head, bodyOf, endOf, stateAt, isLive, isWaiting, isEmpty, isUsed, slots, usedSlots, valueAt, entries, Tiles}
-use Rattle.rules.specs.Sound.{isEven, lies, inPlace, isValid, listBad}
+use Rattle.rules.specs.Sound.{isEven, lies, holdsWord, inPlace, isValid, listBad}
 use Rattle.rules.specs.Stores.{lastOf}
 use Rattle.word.specs.Memory.{upd-other}
-use Rattle.laws.specs.Searches.{differ, and-both, any-each, each-map, each-right, seek-each, seek-same, seek-split, those-each}
-use Rattle.laws.specs.Landing.{last-each}
+use Rattle.laws.specs.Searches.{differ, and-both, any-each, each-map, each-right, seek-each, seek-same, seek-split, those-each, last-each}
 use Rattle.laws.specs.Tilings.{tiles-in}
 use Rattle.laws.specs.Stored.{reads-right}
 use Rattle.loss.specs.Held.{Held, Idle}
@@ -43,10 +42,10 @@ unfolding isValid inPlace
 valid-place n t hs s e =
     let x = and-both (isEven t) _ e in rw (x .0) (go (lies staticAt staticEnd t) (x .1))
   where
-    go : (b : Bool) → (b || any (λ h. isLive h && lies (bodyOf h) (endOf h) t) hs) ≡ true → (b || lies clumpsAt n t) ≡ true
+    go : (b : Bool) → (b || any (holdsWord t) hs) ≡ true → (b || lies clumpsAt n t) ≡ true
     go true f = refl
     go false f =
-        let y = any-each (λ h. (clumpsAt ≤ h .at) × (h .at < n) × (endOf h ≤ n)) (λ h. isLive h && lies (bodyOf h) (endOf h) t) hs f (tiles-in clumpsAt n hs s) in
+        let y = any-each (λ h. (clumpsAt ≤ h .at) × (h .at < n) × (endOf h ≤ n)) (holdsWord t) hs f (tiles-in clumpsAt n hs s) in
         let z = and-both (leb (bodyOf (y .0)) t) _ (and-both (isLive (y .0)) _ (y .1) .1) in
         let l = leb-true (bodyOf (y .0)) t (z .0) in
         let u = leb-true (t + wordBytes) (endOf (y .0)) (z .1) in

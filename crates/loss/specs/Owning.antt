@@ -2,7 +2,7 @@
 -- to. By the law that a byte of the static area or of a live body lies in no header. Assumes nothing.
 use Prim.Native.Nat.{ℕ}
 use mathlib.Core.Path.{_≡_, refl}
-use mathlib.Core.Bool.{Bool, true, false, cond, _||_, or-true}
+use mathlib.Core.Bool.{Bool, true, false, cond, _&&_, _||_, or-true}
 use mathlib.Core.List.{List, [], _∷_, _++_, map}
 use borrow.Author.Tests.{eqb-true}
 use Rattle.rules.specs.Lists.{those, any, Each}
@@ -11,10 +11,14 @@ use Rattle.rules.specs.Pages.{clumpsAt, staticAt, staticEnd}
 use Rattle.rules.specs.Clumps.{Head, bodyOf, endOf, hasState, isLive, entries, ACTIVE, ACTIVATING, Tiles, walk}
 use Rattle.rules.specs.Reading.{within, inPart}
 use Rattle.laws.specs.Searches.{each-map}
-use Rattle.laws.specs.Named.{Off, off, inBody}
 use Rattle.laws.specs.Pools.{Sound}
+use Rattle.laws.specs.Bodies.{Off, off}
 use Rattle.loss.specs.Held.{Held, Idle, Pends, Stands, rests, pends, idle-sound, pends-sound, sound-stands}
 use Rattle.loss.specs.Fates.{Kept, isKept, keptOf, fates, Beyond, Owned, Rests, Leads, Led, resting, leading}
+
+-- the byte at o lies in a live body
+abbrev inBody : ℕ → Head → Bool
+inBody o h = isLive h && within (bodyOf h) (endOf h) o
 
 -- a kept clump is live
 kept-live : (h : Head) → isKept h ≡ true → isLive h ≡ true

@@ -19,8 +19,8 @@ use Rattle.laws.specs.Searches.{differ, those-each, each-map}
 use Rattle.laws.specs.Totals.{five}
 use Rattle.laws.specs.Walking.{Placed, all-placed}
 use Rattle.laws.specs.Pools.{pool-length}
-use Rattle.laws.specs.Landing.{Lies, placed-lies}
 use Rattle.laws.specs.Stored.{withState}
+use Rattle.laws.specs.Lying.{Lies, placed-lies}
 use Rattle.loss.specs.Held.{Idle, held-walk}
 use Rattle.loss.specs.Fates.{Kept, fates, Owned, Rests}
 use Rattle.loss.specs.Gaps.{gaps, calm-gaps}

@@ -10,7 +10,7 @@ use borrow.Author.Tests.{eqb-true, eqb-false}
 use Rattle.rules.specs.Lists.{Each}
 use Rattle.rules.specs.Words.{Mem, Store, upd, after}
 use Rattle.word.specs.Memory.{upd-same, upd-other, after-append}
-use Rattle.laws.specs.Named.{each-take}
+use Rattle.laws.specs.Searches.{each-take}
 
 -- a store to another word than the one at o; and a list of such stores
 abbrev pub Other : ℕ → Store → Type 0

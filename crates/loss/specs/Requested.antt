@@ -1,18 +1,17 @@
 -- Every request on a settled pool takes its course, whatever its numbers: a refusal stores nothing, and what each test leaves is what the
 -- laws of its stores want. By cases on the requests. Assumes nothing.
-use Prim.Native.Nat.{ℕ, _≤_}
+use Prim.Native.Nat.{ℕ}
 use mathlib.Core.Path.{_≡_, refl, sym, subst}
 use mathlib.Core.Bool.{Bool, true, false, not, or-true}
 use mathlib.Core.Option.{Option, some, none}
 use mathlib.Core.List.{List, [], _∷_, _++_}
-use native.Mathlib.Omega.{arith}
 use lib.Dec.{eqb}
 use borrow.Author.Tests.{leb-true, eqb-false, not-false}
 use Rattle.rules.specs.declared.Request.{Request}
 use Rattle.rules.specs.declared.Request.the-variants.{Create, Reserve, Onactive, Onfree, Withdraw, Activate, Free, Check, Recover}
 use Rattle.rules.specs.Lists.{seek, Each}
 use Rattle.rules.specs.Words.{Mem}
-use Rattle.rules.specs.Clumps.{Head, hasState, isFree, isWaiting, isEmpty, slots, usedSlots, leastClump, RESERVED, ACTIVE, walk}
+use Rattle.rules.specs.Clumps.{Head, hasState, isFree, isWaiting, isEmpty, slots, usedSlots, RESERVED, ACTIVE, walk}
 use Rattle.rules.specs.Sound.{isValid, allValid, touching, unsettled}
 use Rattle.rules.specs.Answers.{storesOf, sizeZero, wrongState, badTarget}
 use Rattle.rules.specs.Stores.{needOf, fits, reserveStores, freeStores, recoverStores}
@@ -20,9 +19,9 @@ use Rattle.rules.specs.Requests.{placed, reserve, finder, listed, enlist, withd
 use Rattle.rules.specs.Traces.{isCreate, isCarriedThrough}
 use Rattle.laws.specs.Searches.{differ, and-both, each-right, seek-split}
 use Rattle.laws.specs.Behind.{behind-test, behind-sound, behind-settled, behind-found}
-use Rattle.laws.specs.Landing.{need-even}
-use Rattle.laws.specs.Named.{Off}
 use Rattle.laws.specs.Pools.{Sound}
+use Rattle.laws.specs.Needs.{need-even, need-clump}
+use Rattle.laws.specs.Bodies.{Off}
 use Rattle.loss.specs.Orders.{reserveOrder, listOrder, recoverOrder}
 use Rattle.loss.specs.Held.{Held, Idle, sound-held}
 use Rattle.loss.specs.Fates.{fates, Owned}
@@ -56,11 +55,6 @@ amid n m t h s u e =
       apart = subst (λ (hs : List Head). touching hs ≡ false) i (c .1);
     }
 
--- need is a clump's size at the least
-need-least : (size : ℕ) → (size ≡ 0 → ⊥) → leastClump ≤ needOf size
-unfolding needOf
-need-least size z = omega arith
-
 module _ (n : ℕ) (m : Mem) (s : Sound n m) (u : unsettled (walk n m) ≡ false) where
   none-made : (b : Bool) → Course n m b []
   none-made b = course-none n m b s u
@@ -76,7 +70,7 @@ module _ (n : ℕ) (m : Mem) (s : Sound n m) (u : unsettled (walk n m) ≡ false
       let f = and-both (isFree h) _ (seek-split (fits (needOf size)) (walk n m) h e .passes) in
       let k = fates m (p ++ (h ∷ q)) in
       let t = a .held .tiles in
-      reserves n (Owned k) k m p h q (f .0) (λ o d. each-right (Off o) p (h ∷ q) (owned-off n m (p ++ (h ∷ q)) o t d) .0 .whole (f .0)) m (needOf size) (need-even size) (need-least size z)
+      reserves n (Owned k) k m p h q (f .0) (λ o d. each-right (Off o) p (h ∷ q) (owned-off n m (p ++ (h ∷ q)) o t d) .0 .whole (f .0)) m (needOf size) (need-even size) (need-clump size z)
       (leb-true (needOf size) (h .nbytes) (f .1))
       (rests-as n (Owned k) m (p ++ (h ∷ q)) (a .held) (a .idle) (owned-beyond n m (p ++ (h ∷ q)) t))
 

@@ -8,8 +8,8 @@ use native.Mathlib.Omega.{arith}
 use Rattle.rules.specs.Lists.{any, Each}
 use Rattle.rules.specs.Words.{Mem, Store, upd}
 use Rattle.rules.specs.Pages.{staticAt, staticEnd}
-use Rattle.rules.specs.Clumps.{Head, bodyOf, endOf, stateAt, isFree, isLive, isPending, slots, entries, FREEING}
-use Rattle.rules.specs.Sound.{isEven, lies, isValid, allValid, listBad}
+use Rattle.rules.specs.Clumps.{Head, stateAt, isFree, isPending, slots, entries, FREEING}
+use Rattle.rules.specs.Sound.{isEven, lies, holdsWord, isValid, allValid, listBad}
 use Rattle.laws.specs.Searches.{each-left, each-right, each-map}
 use Rattle.laws.specs.Headers.{entries-same}
 use Rattle.laws.specs.Stored.{withState}
@@ -18,10 +18,6 @@ use Rattle.loss.specs.Fates.{Kept, isKept, fates-none, Beyond, Rests}
 use Rattle.loss.specs.Parts.{front-slots, held-state, fates-state, state-word, each-other}
 use Rattle.loss.specs.Carrying.{busy-good}
 use Rattle.loss.specs.Targets.{valid-entries, entries-valid}
-
--- the word at t lies in a live body
-abbrev holdsWord : ℕ → Head → Bool
-holdsWord t h = isLive h && lies (bodyOf h) (endOf h) t
 
 module _ (n : ℕ) (D : ℕ → Type 0) (k : List Kept) (w m : Mem) (p : List Head) (h : Head) (q : List Head) (s : ℕ) (f : Rests n D k w m (p ++ (h ∷ q))) where
   -- of a clump that is not kept, before or after

@@ -1,37 +1,26 @@
 -- A walk that stores behind itself. At the offset h of the walk over the image x, the stores done have led to the image img, the clumps
 -- from h on still stand there as in x, and the stores done with those still to do are the whole list. Assumes nothing.
-use Prim.Native.Nat.{ℕ, zero, suc, _+_, _%_, _<_, _≤_}
+use Prim.Native.Nat.{ℕ, _+_, _%_, _<_, _≤_}
 use mathlib.Core.Path.{_≡_, refl, sym, ap, ap₂, _∙_, subst}
 use mathlib.Core.Bool.{Bool, true, false, cond}
 use mathlib.Core.List.{List, [], _∷_, _++_, append-assoc}
 use native.Mathlib.Omega.{arith}
 use lib.Dec.{eqb}
-use lib.ListN.{length, take}
+use lib.ListN.{length}
 use borrow.Author.Tests.{eqb-true, eqb-false}
-use Rattle.rules.specs.Lists.{Each}
-use Rattle.rules.specs.Words.{Image, Mem, Store, mem, store, upd, after, wordBytes}
+use Rattle.rules.specs.Words.{Image, Mem, Store, mem, store, wordBytes}
 use Rattle.rules.specs.Pages.{clumpsAt, unit}
 use Rattle.rules.specs.Clumps.{Head, head, isFree, stateAt, leastClump, RESERVED, FREE, Tiles}
 use Rattle.rules.specs.Stores.{releasing}
 use Rattle.rules.specs.Reading.{clumpsOf, Tiled}
 use Rattle.word.specs.declared.Power.{Power}
-use Rattle.word.specs.Memory.{upd-other}
+use Rattle.word.specs.Memory.{Below, below-after}
 use Rattle.word.specs.Runs.{Ran, ran-none, ran-then}
 use Rattle.laws.specs.Tilings.{tiles-le}
 use Rattle.laws.specs.Walks.{Rest, rest-start, rest-end, rest-step}
 use Rattle.laws.specs.Joins.{nextFirst, nextOwn, nextSum, runStore, joins}
 use Rattle.laws.specs.Mending.{releasing-cons}
 use Rattle.mend.specs.declared.Open.{Open}
-
--- the stores of a list go below b
-abbrev pub Below : ℕ → List Store → Type 0
-Below b st = Each (λ s. s .to < b) st
-
-below-after : (k : ℕ) (st : List Store) (m : Mem) (b o : ℕ) → Below b st → b ≤ o → after m (take k st) o ≡ m o
-unfolding after
-below-after zero st m b o f l = refl
-below-after (suc k) [] m b o f l = refl
-below-after (suc k) (s ∷ st) m b o f l = below-after k st (upd m (s .to) (s .word)) b o (f .1) l ∙ upd-other m (s .to) (s .word) o (omega (arith, f .0))
 
 pub record Passing (to-do : List Head → List Store) (x : Image) (p : Power) (img : Image) (q : Power) (h : ℕ) (whole : List Store) : Type 0 where
   pub rest : List Head

@@ -1,35 +1,31 @@
 -- Recovery as the code makes it: what each part stores, what the clumps are after it, and the whole. A part is gone on from only where
 -- nothing was cut, so that the image is then the one that all its stores leave. Assumes nothing.
-use Prim.Native.Nat.{ℕ, _+_, _-_, min}
+use Prim.Native.Nat.{ℕ, _+_}
 use mathlib.Core.Path.{_≡_, refl, sym, ap, _∙_}
 use mathlib.Core.Bool.{true, false}
 use mathlib.Core.Option.{some, none}
 use mathlib.Core.List.{List, [], _∷_, _++_, map, append-assoc}
-use native.Mathlib.Omega.{arith}
-use lib.Dec.{ltb}
-use lib.ListN.{length, take, length-append}
-use lib.Seq.{take-all, take-append-le}
-use borrow.Author.Tests.{eq-eqb, ne-eqb, ltb-true, ltb-false, lt-ltb}
+use lib.ListN.{length}
+use borrow.Author.Tests.{eq-eqb, ne-eqb}
 use Rattle.rules.specs.declared.Answer.{Answer}
 use Rattle.rules.specs.declared.Request.the-variants.{Recover}
 use Rattle.rules.specs.Lists.{seek}
-use Rattle.rules.specs.Words.{Image, Mem, Store, mem, store, after}
+use Rattle.rules.specs.Words.{Image, Mem, Store, mem, store}
 use Rattle.rules.specs.Pages.{clumpsAt}
-use Rattle.rules.specs.Clumps.{Head, head, isPending, stateAt, ACTIVATING, ACTIVE, FREE, Tiles, walk}
+use Rattle.rules.specs.Clumps.{Head, head, isPending, stateAt, ACTIVATING, ACTIVE, FREE}
 use Rattle.rules.specs.Sound.{targetFault}
 use Rattle.rules.specs.Answers.{granted, ifSound, answerAt}
 use Rattle.rules.specs.Stores.{finishActivating, finishFreeing, finishing, releasing, released, runs, joining, recoverStores}
 use Rattle.rules.specs.Requests.{Does, verdict}
 use Rattle.rules.specs.Reading.{clumpsOf, Tiled}
 use Rattle.word.specs.declared.Power.{Power}
-use Rattle.word.specs.Runs.{full, cutBy, spent, Ran, ran-then}
-use Rattle.laws.specs.Walks.{Reads, heads-read, walk-finds, sound-tiles, no-faults}
-use Rattle.laws.specs.Pools.{Sound, pool-length}
+use Rattle.word.specs.Runs.{full, Ran, ran-then, ran-as, ran-whole, ran-cut}
+use Rattle.laws.specs.Walks.{walk-reads, walk-is, no-faults}
+use Rattle.laws.specs.Pools.{Sound, pool-tiles}
 use Rattle.laws.specs.Mending.{settle, freed, map-released, tiles-settle, tiles-freed, finish-reads, release-reads, releasing-settle}
 use Rattle.page.specs.Forms.{listAt}
 use Rattle.steps.specs.Lists.{assignsOf, emptiesOf, assigns-are, empties-are}
 use Rattle.steps.specs.Acts.{acts-does, acts-ran}
-use Rattle.steps.specs.Loops.{ran-as}
 
 -- the stores of the first part, by the clump that was found and the list that was read
 module _ (m : Mem) (hs : List Head) where
@@ -45,62 +41,23 @@ module _ (m : Mem) (hs : List Head) where
     unfolding finishFreeing
     finish-frees z = rw (e, ne-eqb (m (stateAt h)) ACTIVATING (λ y. z (is ∙ y)), list, assigns-are m h)
 
--- a run that was not cut made all its stores
-pub ran-whole : {img x : Image} {p q : Power} {st : List Store} → Ran img p st x q → p .cut ≡ false → q .cut ≡ false → mem x ≡ after (mem img) st
-unfolding spent cutBy
-ran-whole {img} {x} {p} {q} {st} r e f =
-    let g : ltb (p .left) (length st) ≡ false = rw e at (sym (ap (λ (k : Power). k .cut) (r .power)) ∙ f) in
-    r .memory ∙ ap (after (mem img)) (take-all (p .left) st (ltb-false (p .left) (length st) g))
-
--- a run that was cut is cut whatever comes after it
-pub ran-cut : {img x : Image} {q : Power} (fuse : ℕ) (st ts : List Store) → Ran img (full fuse) st x q → q .cut ≡ true → Ran img (full fuse) (st ++ ts) x q
-unfolding spent cutBy
-ran-cut {img} {x} {q} fuse st ts r e =
-    let g : ltb fuse (length st) ≡ true = sym (ap (λ (k : Power). k .cut) (r .power)) ∙ e in
-    let l = ltb-true fuse (length st) g in
-    let t : take fuse (st ++ ts) ≡ take fuse st = take-append-le fuse st ts (omega arith) in
-    let a : fuse - (length st + length ts) ≡ fuse - length st = omega arith in
-    let b : 0 + min fuse (length st + length ts) ≡ 0 + min fuse (length st) = omega arith in
-    record {
-      image = rw t (r .image);
-      memory = rw t (r .memory);
-      long = r .long;
-      power = rw (length-append, a, b, lt-ltb fuse (length st + length ts) (omega arith)) (r .power ∙ rw g);
-      sum = r .sum;
-    }
-
--- the clumps of a memory that holds the headers of a tiling
-clumps-are : (x : Image) (n : ℕ) (hs : List Head) → length x ≡ n → Tiles clumpsAt hs n → Reads (mem x) hs → clumpsOf x ≡ hs
-unfolding walk
-clumps-are x n hs e t r = rw e (walk-finds n n clumpsAt (mem x) hs t r (omega arith))
-
 module _ (img : Image) (s : Sound (length img) (mem img)) where
   tiled : Tiled img
-  tiled = let l = pool-length (length img) (mem img) (s .pool) in sound-tiles (length img) (mem img) (omega arith) (s .sound)
-
-  pub sound-tiled : Tiled img
-  sound-tiled = tiled
+  tiled = pool-tiles (length img) (mem img) s
 
   pub sound-targets : targetFault (mem img) (clumpsOf img) ≡ none
   sound-targets = no-faults (length img) (mem img) (s .sound) .targets
-
-  reads : Reads (mem img) (clumpsOf img)
-  unfolding walk
-  reads = heads-read (length img) (length img) clumpsAt (mem img)
 
   -- after the first part
   module _ {x : Image} {p q : Power} (r : Ran img p (finishing (mem img) (seek isPending (clumpsOf img))) x q) (e : p .cut ≡ false) (f : q .cut ≡ false) where
     pub settled-clumps : clumpsOf x ≡ map settle (clumpsOf img)
     settled-clumps =
-        clumps-are x (length img) (map settle (clumpsOf img)) (r .long) (tiles-settle clumpsAt (length img) (clumpsOf img) tiled)
-        (rw (ran-whole r e f) (finish-reads (length img) (mem img) (clumpsOf img) tiled reads (no-faults (length img) (mem img) (s .sound) .second) sound-targets))
+        rw (r .long)
+        (walk-is (length img) (mem x) (map settle (clumpsOf img)) (tiles-settle clumpsAt (length img) (clumpsOf img) tiled)
+        (rw (ran-whole r e f) (finish-reads (length img) (mem img) (clumpsOf img) tiled (walk-reads (length img) (mem img)) (no-faults (length img) (mem img) (s .sound) .second) sound-targets)))
 
     pub settled-tiled : Tiled x
     settled-tiled = rw (settled-clumps, r .long) (tiles-settle clumpsAt (length img) (clumpsOf img) tiled)
-
-    settled-reads : Reads (mem x) (clumpsOf x)
-    unfolding walk
-    settled-reads = heads-read (length x) (length x) clumpsAt (mem x)
 
     pub released-stores : releasing (clumpsOf x) ≡ releasing (clumpsOf img)
     released-stores = ap releasing settled-clumps ∙ releasing-settle clumpsAt (length img) (clumpsOf img) tiled
@@ -109,8 +66,9 @@ module _ (img : Image) (s : Sound (length img) (mem img)) where
     module _ {y : Image} {u : Power} (t : Ran x q (releasing (clumpsOf x)) y u) (g : u .cut ≡ false) where
       freed-clumps : clumpsOf y ≡ map freed (clumpsOf x)
       freed-clumps =
-          clumps-are y (length x) (map freed (clumpsOf x)) (t .long) (tiles-freed clumpsAt (length x) (clumpsOf x) settled-tiled)
-          (rw (ran-whole t f g) (release-reads (clumpsOf x) (mem x) clumpsAt (length x) settled-tiled settled-reads))
+          rw (t .long)
+          (walk-is (length x) (mem y) (map freed (clumpsOf x)) (tiles-freed clumpsAt (length x) (clumpsOf x) settled-tiled)
+          (rw (ran-whole t f g) (release-reads (clumpsOf x) (mem x) clumpsAt (length x) settled-tiled (walk-reads (length x) (mem x)))))
 
       pub released-tiled : Tiled y
       released-tiled = rw (freed-clumps, t .long) (tiles-freed clumpsAt (length x) (clumpsOf x) settled-tiled)

@@ -1,10 +1,9 @@
 -- Create's list in two parts, what reserve asks of the clump that was found, and a law for each way out of the two. Assumes nothing.
-use Prim.Native.Nat.{ℕ, _+_, _-_, _*_, _/_, _%_, _<_, _≤_}
+use Prim.Native.Nat.{ℕ, _+_, _-_, _/_, _%_, _<_, _≤_}
 use mathlib.Core.Path.{_≡_, sym, _∙_}
 use mathlib.Core.Bool.{Bool, true, false, not}
 use mathlib.Core.Option.{some, none}
 use mathlib.Core.List.{List, [], _∷_, _++_, append-assoc}
-use native.Mathlib.Omega.{arith}
 use lib.ListN.{length}
 use borrow.Author.Tests.{eq-eqb, ne-eqb, le-leb, lt-leb, leb-true, not-true, not-false}
 use Rattle.rules.specs.declared.Answer.{Answer}
@@ -17,12 +16,12 @@ use Rattle.rules.specs.Answers.{granted, refuse, notPool, sizeZero, noRoom, ans
 use Rattle.rules.specs.Stores.{createStores, needOf, fits, emptying, leastRest, reserveStores}
 use Rattle.rules.specs.Requests.{Does, reserve, verdict}
 use Rattle.laws.specs.Searches.{and-both, seek-split}
+use Rattle.laws.specs.Pools.{answerIs}
 use Rattle.walk.specs.Forms.{offsetOf}
 use Rattle.walk.specs.Scans.{offset-some, offset-inside}
-use Rattle.steps.specs.Acts.{Acts, acts-refused, acts-does, acts-ran, answerIs}
-use Rattle.steps.specs.Loops.{ran-as}
+use Rattle.steps.specs.Acts.{Acts, acts-refused, acts-does, acts-ran}
 use Rattle.word.specs.declared.Power.{Power}
-use Rattle.word.specs.Runs.{full, Ran, ran-then}
+use Rattle.word.specs.Runs.{full, Ran, ran-then, ran-as}
 
 -- create's list, below the padding and from it on
 abbrev pub pageStores : ℕ → List Store
@@ -68,11 +67,6 @@ fit-found n m size r s t e l =
     let i = offset-inside n m (fits (needOf size)) t r e l in
     let p = seek-split (fits (needOf size)) (walk n m) (head m r) (offset-some n m (fits (needOf size)) t r e l) .passes in
     record { even = i .even; enough = leb-true (needOf size) (m r) (and-both (isFree (head m r)) _ p .1); room = i .room; small = s }
-
--- need, as the code computes it, and its least
-pub need-is : (size : ℕ) → 64 + (size / 64 + (size % 64 + 63) / 64) * 64 ≡ needOf size
-unfolding needOf
-need-is size = omega arith
 
 -- the stores of reserve, split or whole
 pub stores-split :
@@ -128,7 +122,3 @@ unfolding verdict
 create-done {img} {s = s} b fuse e t f u v a =
     acts-does (granted 0 (createStores (length img))) (rw (sym e ∙ not-false b t))
     (acts-ran {q = s} fuse 0 (ran-as _ _ (create-parts (length img)) (ran-then (rw f at u) (rw (u .long) at v))) a)
-
-pub need-least : (size : ℕ) → 64 ≤ needOf size
-unfolding needOf
-need-least size = omega arith

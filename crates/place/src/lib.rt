@@ -6,7 +6,7 @@ ghost use lib.ListN.{length};
 ghost use Rattle.rules.specs.declared.Request.the-variants.{Create, Reserve};
 ghost use Rattle.rules.specs.Words.{wordBytes, wordValues, mem, store};
 ghost use Rattle.rules.specs.Pages.{clumpsAt};
-ghost use Rattle.rules.specs.Clumps.{head, headerBytes, slots, stateAt, bodyOf, RESERVED, FREE};
+ghost use Rattle.rules.specs.Clumps.{head, headerBytes, slots, stateAt, RESERVED, FREE};
 ghost use Rattle.rules.specs.Answers.{granted};
 ghost use Rattle.rules.specs.Stores.{emptying, needOf, reserveStores};
 ghost use Rattle.rules.specs.Requests.{Does};

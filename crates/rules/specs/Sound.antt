@@ -66,9 +66,13 @@ second (h ∷ k ∷ hs) = some (faultAt 4 k)
 unfoldable pub secondFault : List Head → Option Fault
 secondFault hs = second (those isPending hs)
 
+-- the word at t lies "wholly in one body whose clump isn't FREE"
+abbrev pub holdsWord : ℕ → Head → Bool
+holdsWord t h = isLive h && lies (bodyOf h) (endOf h) t
+
 -- "A target is valid if divisible by 8 and its 8 bytes lie in the static area or wholly in one body whose clump isn't FREE."
 unfoldable pub isValid : List Head → ℕ → Bool
-isValid hs t = isEven t && (lies staticAt staticEnd t || any (λ h. isLive h && lies (bodyOf h) (endOf h) t) hs)
+isValid hs t = isEven t && (lies staticAt staticEnd t || any (holdsWord t) hs)
 
 -- every used target of the clump is valid
 unfoldable pub allValid : Mem → List Head → Head → Bool

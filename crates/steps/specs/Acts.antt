@@ -8,7 +8,6 @@ use mathlib.Core.List.{List, []}
 use native.Mathlib.Omega.{arith}
 use lib.ListN.{length, take}
 use lib.Seq.{take-nil}
-use borrow.Author.Tests.{le-ltb}
 use Rattle.rules.specs.declared.Answer.{Answer}
 use Rattle.rules.specs.declared.Request.{Request}
 use Rattle.rules.specs.Words.{Image, Store, mem, carry}
@@ -18,13 +17,9 @@ use Rattle.rules.specs.Sound.{Fault, judge, unsettled}
 use Rattle.rules.specs.Answers.{Verdict, refused, granted, refuse, noClump, test, testFault, notPool, notSettled, ifSound, ifSettled, storesOf, answerAt, answerOf}
 use Rattle.rules.specs.Requests.{verdictOn, Does, finder, found}
 use Rattle.rules.specs.Reading.{clumpsOf, Tiled}
-use Rattle.laws.specs.Walks.{sound-tiles}
-use Rattle.laws.specs.Pools.{Sound, RightLength, pool-length}
+use Rattle.laws.specs.Pools.{answerIs, granted-none, Sound, RightLength, pool-length, pool-tiles}
 use Rattle.word.specs.declared.Power.{Power}
 use Rattle.word.specs.Runs.{full, Ran, ran-answer}
-
-abbrev pub answerIs : ℕ → ℕ → ℕ → Answer
-answerIs a p f = record { answer = a; place = p; fault = f; stores = 0 }
 
 -- from the image before, under a fuse, the verdict v leads to the image x and the answer r
 pub record Acts (before : Image) (v : Verdict) (fuse : ℕ) (x : Image) (r : Answer) : Type 0 where
@@ -50,10 +45,6 @@ pub acts-ran :
     {img x : Image} {q : Power} {st : List Store} {r : Answer} (fuse place : ℕ)
     → Ran img (full fuse) st x q → r ≡ answerAt (q .cut) place (q .made) → Acts img (granted place st) fuse x r
 acts-ran fuse place s e = record { answered = e ∙ ran-answer fuse place s; stored = s .image }
-
-granted-none : (fuse : ℕ) → answerIs 0 0 0 ≡ answerOf fuse (granted 0 [])
-unfolding answerOf
-granted-none fuse = rw (le-ltb fuse 0 (omega arith), take-nil fuse)
 
 -- behind the tests 1 and 2
 module _ (img : Image) (r : Answer) (e : (fuse : ℕ) → r ≡ answerOf fuse (ifSound (length img) (mem img) (granted 0 []))) where
@@ -113,10 +104,7 @@ module _ (img : Image) (r : Answer) (e : (fuse : ℕ) → r ≡ answerOf fuse (i
   settled-is z v = let s = settled z in rw (s .0 .pool, s .0 .sound, s .1)
 
   pub settled-tiles : r .answer ≡ 0 → Tiled img
-  settled-tiles z =
-      let s = settled-sound z in
-      let l = pool-length (length img) (mem img) (s .pool) in
-      sound-tiles (length img) (mem img) (omega arith) (s .sound)
+  settled-tiles z = pool-tiles (length img) (mem img) (settled-sound z)
 
   pub settled-length : r .answer ≡ 0 → RightLength (length img)
   settled-length z = pool-length (length img) (mem img) (settled-sound z .pool)

@@ -1,6 +1,6 @@
 -- The stores of an on-list that was read: those that carry it out and those that empty it, and that they are the rules'.
 -- Assumes nothing.
-use Prim.Native.Nat.{ℕ, zero, suc, _+_, _*_, _%_, _<_, _≤_}
+use Prim.Native.Nat.{ℕ, zero, suc, _+_, _*_, _<_}
 use mathlib.Core.Path.{_≡_, refl, ap, ap₂}
 use mathlib.Core.Bool.{Bool, true, false, cond, not}
 use mathlib.Core.List.{List, [], _∷_, _++_, map}
@@ -11,66 +11,55 @@ use lib.ListN.{length, getD, take}
 use borrow.Author.Tests.{eq-eqb, ne-eqb}
 use Rattle.rules.specs.Lists.{those}
 use Rattle.rules.specs.Words.{Mem, Store, store, wordBytes, zeros}
-use Rattle.rules.specs.Clumps.{isUsed, usedSlots, valueAt, entry, entries}
+use Rattle.rules.specs.Clumps.{slots, isUsed, usedSlots, entry, entries}
 use Rattle.rules.specs.Stores.{emptying}
-use Rattle.page.specs.Forms.{listAt}
+use Rattle.page.specs.Forms.{entryAt, targetOf, valueOf, listAt}
 
--- target and value of an entry
-abbrev pub targetOf : List ℕ → ℕ
-targetOf e = getD e 0 0
-
-abbrev pub valueOf : List ℕ → ℕ
-valueOf e = getD e 1 0
-
+-- the stores that carry a list out
 unfoldable pub assignsOf : List (List ℕ) → List Store
 assignsOf [] = []
 assignsOf (e ∷ es) = cond (eqb (targetOf e) 0) (assignsOf es) (store (targetOf e) (valueOf e) ∷ assignsOf es)
 
--- the list's first target word stands at s
+-- the stores that empty it, where its first target word stands at s
 unfoldable pub emptiesOf : ℕ → List (List ℕ) → List Store
 emptiesOf s [] = []
 emptiesOf s (e ∷ es) = cond (eqb (targetOf e) 0) (emptiesOf (s + 16) es) (store s 0 ∷ emptiesOf (s + 16) es)
 
--- the used targets of a list lie in an image of n bytes, at offsets divisible by 8
-abbrev pub InImage : ℕ → List (List ℕ) → Type 0
-InImage n l = (i : ℕ) → i < 3 → (targetOf (getD l i []) ≡ 0 → ⊥) → (targetOf (getD l i []) % wordBytes ≡ 0) × (targetOf (getD l i []) + wordBytes ≤ n)
-
 -- they are the rules' stores, of the clump whose list was read: one entry after the other
-module _ (m : Mem) (s : ℕ) (sl : List ℕ) (t v : ℕ) (es : List (List ℕ)) (e : t ≡ m s) where
-  assigns-cons : v ≡ m (valueAt s) → assignsOf es ≡ map (entry m) (those (isUsed m) sl) → assignsOf ((t ∷ v ∷ []) ∷ es) ≡ map (entry m) (those (isUsed m) (s ∷ sl))
-  unfolding assignsOf those
-  assigns-cons f h = rw (e, f) (go (eqb (m s) 0))
-    where
-      go :
-          (b : Bool)
-          → cond b (assignsOf es) (entry m s ∷ assignsOf es) ≡ map (entry m) (cond (not b) (s ∷ those (isUsed m) sl) (those (isUsed m) sl))
-      go true = h
-      go false = ap (λ (st : List Store). entry m s ∷ st) h
-
-  empties-cons : (r : ℕ) → r ≡ s → emptiesOf (r + 16) es ≡ emptying (those (isUsed m) sl) → emptiesOf r ((t ∷ v ∷ []) ∷ es) ≡ emptying (those (isUsed m) (s ∷ sl))
-  unfolding emptiesOf those
-  empties-cons r f h = rw e (go (eqb (m s) 0))
-    where
-      go :
-          (b : Bool)
-          → cond b (emptiesOf (r + 16) es) (store r 0 ∷ emptiesOf (r + 16) es) ≡ emptying (cond (not b) (s ∷ those (isUsed m) sl) (those (isUsed m) sl))
-      go true = h
-      go false = ap₂ (λ (x : ℕ) (st : List Store). store x 0 ∷ st) f h
+assigns-from : (m : Mem) (sl : List ℕ) → assignsOf (map (entryAt m) sl) ≡ map (entry m) (those (isUsed m) sl)
+unfolding assignsOf those
+assigns-from m [] = refl
+assigns-from m (s ∷ sl) = go (eqb (m s) 0) (assigns-from m sl)
+  where
+    go :
+        (b : Bool)
+        → assignsOf (map (entryAt m) sl) ≡ map (entry m) (those (isUsed m) sl)
+        → cond b (assignsOf (map (entryAt m) sl)) (entry m s ∷ assignsOf (map (entryAt m) sl)) ≡ map (entry m) (cond (not b) (s ∷ those (isUsed m) sl) (those (isUsed m) sl))
+    go true h = h
+    go false h = ap (λ (st : List Store). entry m s ∷ st) h
 
 pub assigns-are : (m : Mem) (a : ℕ) → assignsOf (listAt m a) ≡ entries m a
-unfolding assignsOf those
-assigns-are m a =
-    let v : (s o : ℕ) → o ≡ valueAt s → m o ≡ m (valueAt s) = λ s o e. ap m e in
-    let e₃ = assigns-cons m (a + 48) [] (m (a + 48)) (m (a + 56)) [] refl (v (a + 48) (a + 56) (omega arith)) refl in
-    let e₂ = assigns-cons m (a + 32) ((a + 48) ∷ []) (m (a + 32)) (m (a + 40)) ((m (a + 48) ∷ m (a + 56) ∷ []) ∷ []) refl (v (a + 32) (a + 40) (omega arith)) e₃ in
-    assigns-cons m (a + 16) ((a + 32) ∷ (a + 48) ∷ []) (m (a + 16)) (m (a + 24)) ((m (a + 32) ∷ m (a + 40) ∷ []) ∷ (m (a + 48) ∷ m (a + 56) ∷ []) ∷ []) refl (v (a + 16) (a + 24) (omega arith)) e₂
+assigns-are m a = assigns-from m (slots a)
+
+-- entries that stand 16 bytes apart, from r on
+abbrev Spaced : ℕ → List ℕ → Type 0
+Spaced r [] = Unit {0}
+Spaced r (s ∷ sl) = (r ≡ s) × Spaced (r + 16) sl
+
+empties-from : (m : Mem) (r : ℕ) (sl : List ℕ) → Spaced r sl → emptiesOf r (map (entryAt m) sl) ≡ emptying (those (isUsed m) sl)
+unfolding emptiesOf those
+empties-from m r [] f = refl
+empties-from m r (s ∷ sl) f = go (eqb (m s) 0) (empties-from m (r + 16) sl (f .1))
+  where
+    go :
+        (b : Bool)
+        → emptiesOf (r + 16) (map (entryAt m) sl) ≡ emptying (those (isUsed m) sl)
+        → cond b (emptiesOf (r + 16) (map (entryAt m) sl)) (store r 0 ∷ emptiesOf (r + 16) (map (entryAt m) sl)) ≡ emptying (cond (not b) (s ∷ those (isUsed m) sl) (those (isUsed m) sl))
+    go true h = h
+    go false h = ap₂ (λ (x : ℕ) (st : List Store). store x 0 ∷ st) (f .0) h
 
 pub empties-are : (m : Mem) (a : ℕ) → emptiesOf (a + 16) (listAt m a) ≡ emptying (usedSlots m a)
-unfolding emptiesOf those
-empties-are m a =
-    let e₃ = empties-cons m (a + 48) [] (m (a + 48)) (m (a + 56)) [] refl (a + 16 + 16 + 16) (omega arith) refl in
-    let e₂ = empties-cons m (a + 32) ((a + 48) ∷ []) (m (a + 32)) (m (a + 40)) ((m (a + 48) ∷ m (a + 56) ∷ []) ∷ []) refl (a + 16 + 16) (omega arith) e₃ in
-    empties-cons m (a + 16) ((a + 32) ∷ (a + 48) ∷ []) (m (a + 16)) (m (a + 24)) ((m (a + 32) ∷ m (a + 40) ∷ []) ∷ (m (a + 48) ∷ m (a + 56) ∷ []) ∷ []) refl (a + 16) refl e₂
+empties-are m a = empties-from m (a + 16) (slots a) (refl, (omega arith, (omega arith, tt)))
 
 -- one entry more
 assigns-suc : (l : List (List ℕ)) (i : ℕ) → i < length l → assignsOf (take (suc i) l) ≡ assignsOf (take i l) ++ assignsOf (getD l i [] ∷ [])

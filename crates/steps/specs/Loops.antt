@@ -5,12 +5,9 @@ use mathlib.Core.List.{List, [], _∷_, _++_, append-nil}
 use lib.ListN.{length, getD, take}
 use Rattle.rules.specs.Words.{Image, Store, store, wordBytes, zeros}
 use Rattle.word.specs.declared.Power.{Power}
-use Rattle.word.specs.Runs.{Ran, ran-then}
-use Rattle.steps.specs.Lists.{targetOf, valueOf, assignsOf, emptiesOf, assigns-more, empties-more, assign-used, assign-empty, empty-one, empty-empty, zeros-more}
-
--- the same run under another name
-pub ran-as : {img x : Image} {p q : Power} (st ts : List Store) → ts ≡ st → Ran img p st x q → Ran img p ts x q
-ran-as st ts e r = rw e r
+use Rattle.word.specs.Runs.{Ran, ran-then, ran-as}
+use Rattle.page.specs.Forms.{targetOf, valueOf}
+use Rattle.steps.specs.Lists.{assignsOf, emptiesOf, assigns-more, empties-more, assign-used, assign-empty, empty-one, empty-empty, zeros-more}
 
 module _ {img x y : Image} {p q r : Power} where
   pub zeros-step :

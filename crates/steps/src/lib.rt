@@ -9,8 +9,9 @@ ghost use Rattle.rules.specs.Clumps.{headerBytes, slots, stateAt, ACTIVE, FREE}
 ghost use Rattle.rules.specs.Answers.{answerAt};
 ghost use Rattle.rules.specs.Stores.{emptying};
 ghost use Rattle.word.specs.Runs.{Ran};
-ghost use Rattle.steps.specs.Lists.{assignsOf, emptiesOf, InImage};
-ghost use Rattle.steps.specs.Acts.{answerIs};
+ghost use Rattle.laws.specs.Pools.{answerIs};
+ghost use Rattle.page.specs.Forms.{InImage};
+ghost use Rattle.steps.specs.Lists.{assignsOf, emptiesOf};
 use page::clump::Clump;
 use rules::Answer;
 use word::Power;

@@ -7,8 +7,6 @@ use mathlib.Core.List.{List, [], _∷_}
 use native.Mathlib.Omega.{arith}
 use native.Mathlib.Nat.{zero-add, add-zero}
 use lib.ListN.{length}
-use lib.Seq.{take-nil}
-use borrow.Author.Tests.{le-ltb}
 use Rattle.rules.specs.declared.Answer.{Answer}
 use Rattle.rules.specs.declared.Totals.{Totals}
 use Rattle.rules.specs.declared.Request.the-variants.{Check}
@@ -20,9 +18,9 @@ use Rattle.rules.specs.Sound.{Fault, judge, startsFree, touching, unsettled}
 use Rattle.rules.specs.Answers.{granted, test, testFault, notPool, notSettled, ifSound, ifSettled, answerOf, bytesOf, totalOf, totalsFor}
 use Rattle.rules.specs.Requests.{verdict, answerOn, totalsOn}
 use Rattle.rules.specs.Reading.{clumpsOf}
-use Rattle.laws.specs.Walks.{rest-step, sound-tiles}
+use Rattle.laws.specs.Walks.{rest-step}
 use Rattle.laws.specs.Walking.{Walking, walking-start, walking-end, walking-move}
-use Rattle.laws.specs.Pools.{Sound, check-sound, pool-length}
+use Rattle.laws.specs.Pools.{answerIs, granted-none, Sound, check-sound, pool-tiles}
 use Rattle.laws.specs.Totals.{tiles-bytes}
 use Rattle.judge.specs.Forms.{judgedOf}
 use Rattle.judge.specs.declared.Judged.the-variants.{Fault as Broken}
@@ -103,13 +101,6 @@ module _ (n : ℕ) (m : Mem) (s : ℕ) where
     total-move l p u k e = walking-move w l p u (λ hs. sum + k + totalOf s hs) (λ t. rw e (omega (arith, total-cons s (head m h) t)))
 
 -- the tests 1 and 2
-abbrev pub answerIs : ℕ → ℕ → ℕ → Answer
-answerIs a p f = record { answer = a; place = p; fault = f; stores = 0 }
-
-granted-none : (fuse : ℕ) → answerIs 0 0 0 ≡ answerOf fuse (granted 0 [])
-unfolding answerOf
-granted-none fuse = rw (le-ltb fuse 0 (omega arith), take-nil fuse)
-
 module _ (n : ℕ) (m : Mem) where
   pub sound-no-pool : isPool n m ≡ false → (fuse : ℕ) → answerIs 1 0 0 ≡ answerOf fuse (ifSound n m (granted 0 []))
   unfolding answerOf ifSound
@@ -157,10 +148,7 @@ module _ (n : ℕ) (m : Mem) (r : Answer) (e : (fuse : ℕ) → r ≡ answerOf f
   survey-settled z u fuse = rw u (e fuse)
 
   pub survey-tiles : r .answer ≡ 0 → Tiles clumpsAt (walk n m) n
-  survey-tiles z =
-      let s = survey-sound z in
-      let l = pool-length n m (s .pool) in
-      sound-tiles n m (omega arith) (s .sound)
+  survey-tiles z = pool-tiles n m (survey-sound z)
 
 -- check, refused and accepted
 module _ (img : Image) (r : Answer) (e : (fuse : ℕ) → r ≡ answerOf fuse (ifSound (length img) (mem img) (granted 0 []))) where

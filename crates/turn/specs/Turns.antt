@@ -1,35 +1,33 @@
 -- The stores of free as the code makes them, that they are the rules', and a law for each way out of activate and free.
 -- Assumes nothing.
-use Prim.Native.Nat.{ℕ, zero, suc, _+_, _%_, _<_, _≤_}
+use Prim.Native.Nat.{ℕ, _+_, _%_, _<_, _≤_}
 use mathlib.Core.Path.{_≡_, refl, sym, ap, ap₂, _∙_}
-use mathlib.Core.Bool.{Bool, true, false, cond, _&&_, _||_}
+use mathlib.Core.Bool.{Bool, true, false, cond, _&&_}
 use mathlib.Core.Option.{some, none}
 use mathlib.Core.List.{List, [], _∷_, _++_}
 use native.Mathlib.Omega.{arith}
 use lib.Dec.{eqb, ltb}
-use lib.ListN.{length, getD}
-use borrow.Author.Tests.{eq-eqb, ne-eqb, eqb-true, eqb-false, lt-ltb, ltb-true, ltb-false}
+use lib.ListN.{length}
+use borrow.Author.Tests.{eq-eqb, eqb-true, eqb-false, lt-ltb, ltb-true, ltb-false}
 use Rattle.rules.specs.Lists.{seek}
 use Rattle.rules.specs.Words.{Image, Mem, Store, mem, store, wordBytes, wordValues}
 use Rattle.rules.specs.Pages.{clumpsAt}
 use Rattle.rules.specs.Clumps.{Head, head, endOf, isFree, isWaiting, hasState, stateAt, headerBytes, RESERVED, ACTIVATING, ACTIVE, FREEING, FREE, Tiles, walk}
-use Rattle.rules.specs.Sound.{isValid, allValid}
+use Rattle.rules.specs.Sound.{allValid}
 use Rattle.rules.specs.Answers.{granted, refuse, wrongState, badTarget, answerAt}
 use Rattle.rules.specs.Stores.{finishActivating, finishFreeing, activateStores, dropStores, joinBefore, joinBoth, freeStores}
 use Rattle.rules.specs.Requests.{activate, mayDrop, free}
 use Rattle.rules.specs.Reading.{clumpsOf, Tiled}
 use Rattle.laws.specs.Searches.{and-both, seek-split}
 use Rattle.laws.specs.Walking.{seek-placed}
-use Rattle.laws.specs.Landing.{valid-in}
 use Rattle.page.specs.Forms.{listAt}
 use Rattle.walk.specs.Forms.{offsetOf, listValid}
 use Rattle.walk.specs.Scans.{offset-none, offset-some, offset-inside, list-valid}
 use Rattle.rules.specs.declared.Answer.{Answer}
 use Rattle.word.specs.declared.Power.{Power}
-use Rattle.word.specs.Runs.{full, Ran, ran-then}
+use Rattle.word.specs.Runs.{full, Ran, ran-then, ran-as}
 use Rattle.steps.specs.Acts.{Acts, acts-ran}
-use Rattle.steps.specs.Loops.{ran-as}
-use Rattle.steps.specs.Lists.{assignsOf, emptiesOf, InImage, assigns-are, empties-are}
+use Rattle.steps.specs.Lists.{assignsOf, emptiesOf, assigns-are, empties-are}
 
 -- the stores to the clump itself, by its state and the list that was read
 abbrev pub dropOf : ℕ → ℕ → List (List ℕ) → List Store
@@ -43,6 +41,10 @@ storeIf bytes at w = cond (eqb bytes 0) [] (store at w ∷ [])
 abbrev pub bytesAt : ℕ → Mem → ℕ → ℕ
 bytesAt n m at = cond (ltb at n) (m at) 0
 
+-- a FREE clump that starts at an offset or, below it, ends there
+abbrev pub beside : Bool → ℕ → Head → Bool
+beside below at k = isFree k && eqb (cond below (endOf k) (k .at)) at
+
 -- the clump at h as the code has it, before it is freed
 pub record Turned (img : Image) (h state nbytes : ℕ) (l : List (List ℕ)) : Type 0 where
   pub tiles : Tiled img
@@ -54,15 +56,6 @@ pub record Turned (img : Image) (h state nbytes : ℕ) (l : List (List ℕ)) : T
   pub room : h + nbytes ≤ length img
   pub small : length img < wordValues
   pub valid : state ≡ ACTIVE → listValid (clumpsOf img) l ≡ true
-
-valid-at : (hs : List Head) (l : List (List ℕ)) (i : ℕ) → listValid hs l ≡ true → (getD (getD l i []) 0 0 ≡ 0 → ⊥) → isValid hs (getD (getD l i []) 0 0) ≡ true
-unfolding listValid
-valid-at hs [] i e h = absurd (h refl)
-valid-at hs (x ∷ l) zero e h = rw (ne-eqb (getD x 0 0) 0 h) at (and-both (eqb (getD x 0 0) 0 || isValid hs (getD x 0 0)) (listValid hs l) e .0)
-valid-at hs (x ∷ l) (suc i) e h = valid-at hs l i (and-both (eqb (getD x 0 0) 0 || isValid hs (getD x 0 0)) _ e .1) h
-
-pub list-in : (n : ℕ) (m : Mem) (l : List (List ℕ)) → Tiles clumpsAt (walk n m) n → listValid (walk n m) l ≡ true → InImage n l
-list-in n m l t e i u h = valid-in n m (getD (getD l i []) 0 0) t (valid-at (walk n m) l i e h)
 
 -- activate, a law for each way out
 module _ (m : Mem) (hs : List Head) (o : ℕ) (h : Head) where
@@ -124,18 +117,9 @@ module _ (n : ℕ) (m : Mem) (p : Head → Bool) (tiles : Tiles clumpsAt (walk n
   beside-some h = let l = beside-found h in (offset-some n m p tiles r e l, rw (lt-ltb r n l))
 
 -- the clumps beside, joined: next is the nbytes of the FREE clump that follows, under those of the one before, which stands at below
-abbrev pub startsAt : ℕ → Head → Bool
-startsAt at k = isFree k && eqb (k .at) at
-
-abbrev nextOf : ℕ → ℕ → Head → Bool
-nextOf h nbytes = startsAt (h + nbytes)
-
-abbrev pub belowOf : ℕ → Head → Bool
-belowOf h k = isFree k && eqb (endOf k) h
-
 module _ (img : Image) (h state nbytes : ℕ) (l : List (List ℕ)) (t : Turned img h state nbytes l) (after below : ℕ)
-    (a : after ≡ offsetOf (length img) (seek (startsAt (h + nbytes)) (clumpsOf img)))
-    (b : below ≡ offsetOf (length img) (seek (belowOf h) (clumpsOf img))) where
+    (a : after ≡ offsetOf (length img) (seek (beside false (h + nbytes)) (clumpsOf img)))
+    (b : below ≡ offsetOf (length img) (seek (beside true h) (clumpsOf img))) where
   abbrev next : ℕ
   next = bytesAt (length img) (mem img) after
 
@@ -149,9 +133,9 @@ module _ (img : Image) (h state nbytes : ℕ) (l : List (List ℕ)) (t : Turned 
       go : (c : Bool) → eqb next 0 ≡ c → nbytes + next ≤ length img
       go true q = omega (arith, eqb-true next 0 q, t .room)
       go false q =
-          let f = beside-some (length img) (mem img) (nextOf h nbytes) (t .tiles) after a (eqb-false next 0 q) in
-          let i = seek-placed (length img) (mem img) (nextOf h nbytes) (head (mem img) after) (t .tiles) (f .0) in
-          let p = seek-split (nextOf h nbytes) (clumpsOf img) (head (mem img) after) (f .0) .passes in
+          let f = beside-some (length img) (mem img) (beside false (h + nbytes)) (t .tiles) after a (eqb-false next 0 q) in
+          let i = seek-placed (length img) (mem img) (beside false (h + nbytes)) (head (mem img) after) (t .tiles) (f .0) in
+          let p = seek-split (beside false (h + nbytes)) (clumpsOf img) (head (mem img) after) (f .0) .passes in
           let e = eqb-true after (h + nbytes) (and-both (isFree (head (mem img) after)) _ p .1) in
           omega (arith, i .inside .room, f .1)
 
@@ -161,36 +145,36 @@ module _ (img : Image) (h state nbytes : ℕ) (l : List (List ℕ)) (t : Turned 
       go : (c : Bool) → eqb under 0 ≡ c → under ≤ h
       go true q = omega (arith, eqb-true under 0 q)
       go false q =
-          let f = beside-some (length img) (mem img) (belowOf h) (t .tiles) below b (eqb-false under 0 q) in
-          let p = seek-split (belowOf h) (clumpsOf img) (head (mem img) below) (f .0) .passes in
+          let f = beside-some (length img) (mem img) (beside true h) (t .tiles) below b (eqb-false under 0 q) in
+          let p = seek-split (beside true h) (clumpsOf img) (head (mem img) below) (f .0) .passes in
           let e = eqb-true (below + mem img below) h (and-both (isFree (head (mem img) below)) _ p .1) in
           omega (arith, f .1)
 
-  below-are : (w : ℕ) → joinBefore (seek (belowOf h) (clumpsOf img)) w ≡ storeIf under below (under + w)
+  below-are : (w : ℕ) → joinBefore (seek (beside true h) (clumpsOf img)) w ≡ storeIf under below (under + w)
   below-are w = go (eqb under 0) refl
     where
-      go : (c : Bool) → eqb under 0 ≡ c → joinBefore (seek (belowOf h) (clumpsOf img)) w ≡ cond c [] (store below (under + w) ∷ [])
-      go true q = rw (beside-none (length img) (mem img) (belowOf h) (t .tiles) below b (eqb-true under 0 q))
+      go : (c : Bool) → eqb under 0 ≡ c → joinBefore (seek (beside true h) (clumpsOf img)) w ≡ cond c [] (store below (under + w) ∷ [])
+      go true q = rw (beside-none (length img) (mem img) (beside true h) (t .tiles) below b (eqb-true under 0 q))
       go false q =
-          let f = beside-some (length img) (mem img) (belowOf h) (t .tiles) below b (eqb-false under 0 q) in
+          let f = beside-some (length img) (mem img) (beside true h) (t .tiles) below b (eqb-false under 0 q) in
           rw (f .0) (ap (λ (u : ℕ). store below (u + w) ∷ []) (sym (f .1)))
 
   joins-are :
-      joinBoth (seek (nextOf h nbytes) (clumpsOf img)) (seek (belowOf h) (clumpsOf img)) (head (mem img) h)
+      joinBoth (seek (beside false (h + nbytes)) (clumpsOf img)) (seek (beside true h) (clumpsOf img)) (head (mem img) h)
       ≡ storeIf next h (nbytes + next) ++ storeIf under below (under + (nbytes + next))
   joins-are = go (eqb next 0) refl
     where
       go :
           (c : Bool)
           → eqb next 0 ≡ c
-          → joinBoth (seek (nextOf h nbytes) (clumpsOf img)) (seek (belowOf h) (clumpsOf img)) (head (mem img) h)
+          → joinBoth (seek (beside false (h + nbytes)) (clumpsOf img)) (seek (beside true h) (clumpsOf img)) (head (mem img) h)
           ≡ cond c [] (store h (nbytes + next) ∷ []) ++ storeIf under below (under + (nbytes + next))
       go true q =
           let z = eqb-true next 0 q in
           let y : nbytes + next ≡ mem img h = omega (arith, t .size) in
-          rw (beside-none (length img) (mem img) (nextOf h nbytes) (t .tiles) after a z, y) (below-are (mem img h))
+          rw (beside-none (length img) (mem img) (beside false (h + nbytes)) (t .tiles) after a z, y) (below-are (mem img h))
       go false q =
-          let f = beside-some (length img) (mem img) (nextOf h nbytes) (t .tiles) after a (eqb-false next 0 q) in
+          let f = beside-some (length img) (mem img) (beside false (h + nbytes)) (t .tiles) after a (eqb-false next 0 q) in
           let y : nbytes + next ≡ mem img h + mem img after = omega (arith, t .size, f .1) in
           rw (f .0, y) (ap (λ (st : List Store). store h (mem img h + mem img after) ∷ st) (below-are (mem img h + mem img after)))
 
@@ -202,7 +186,7 @@ module _ (img : Image) (h state nbytes : ℕ) (l : List (List ℕ)) (t : Turned 
       dropOf h state l ++ (storeIf next h (nbytes + next) ++ storeIf under below (under + (nbytes + next)))
       ≡ freeStores (mem img) (clumpsOf img) (head (mem img) h)
   unfolding freeStores
-  free-stores = ap₂ _++_ drops-are (sym joins-are ∙ ap (λ (w : ℕ). joinBoth (seek (nextOf h w) (clumpsOf img)) (seek (belowOf h) (clumpsOf img)) (head (mem img) h)) (t .size))
+  free-stores = ap₂ _++_ drops-are (sym joins-are ∙ ap (λ (w : ℕ). joinBoth (seek (beside false (h + w)) (clumpsOf img)) (seek (beside true h) (clumpsOf img)) (head (mem img) h)) (t .size))
 
   pub release-acts :
       {x y z : Image} {p q r u : Power} {w : Answer} (n k offset fuse : ℕ)

@@ -1,24 +1,22 @@
 // Activate and free: the requests that carry out an on-list. Both take any bytes, any numbers and any fuse.
 ghost use mathlib.Core.Path.{_≡_};
-ghost use mathlib.Core.Bool.{cond, true, _&&_};
-ghost use mathlib.Core.List.{[], _∷_, _++_};
+ghost use mathlib.Core.Bool.{cond, true};
 ghost use Prim.Native.Nat.{_+_, _%_, _≤_, _<_};
 ghost use lib.ListN.{length};
 ghost use lib.Dec.{eqb};
 ghost use Rattle.rules.specs.declared.Request.the-variants.{Activate, Free};
 ghost use Rattle.rules.specs.Lists.{seek};
-ghost use Rattle.rules.specs.Words.{wordBytes, wordValues, mem, store};
-ghost use Rattle.rules.specs.Clumps.{head, headerBytes, isFree, endOf, stateAt, ACTIVE, FREEING, FREE};
+ghost use Rattle.rules.specs.Words.{wordBytes, wordValues, mem};
+ghost use Rattle.rules.specs.Clumps.{head, headerBytes, ACTIVE};
 ghost use Rattle.rules.specs.Answers.{granted};
 ghost use Rattle.rules.specs.Stores.{freeStores};
 ghost use Rattle.rules.specs.Requests.{activate, free, Does};
 ghost use Rattle.rules.specs.Reading.{clumpsOf, Tiled};
 ghost use Rattle.word.specs.Runs.{Ran};
-ghost use Rattle.page.specs.Forms.{listAt};
+ghost use Rattle.page.specs.Forms.{headOf, InImage};
 ghost use Rattle.walk.specs.Forms.{offsetOf, listValid};
 ghost use Rattle.steps.specs.Acts.{Acts};
-ghost use Rattle.steps.specs.Lists.{assignsOf, InImage};
-ghost use Rattle.turn.specs.Turns.{dropOf, storeIf, bytesAt, Turned};
+ghost use Rattle.turn.specs.Turns.{dropOf, storeIf, bytesAt, beside, Turned};
 use page::CLUMPS_AT;
 use page::clump::Clump;
 use rules::Answer;
@@ -70,19 +68,24 @@ fn may_drop(img: &[u8], state: u64, l: [[u64; 2]; 3]) -> bool
     true
 }
 
-fn is_free_at(c: Clump, h: usize, at: usize) -> bool
-    ensures { λ r. ⌜ r ≡ (eqb (c .state) FREE && eqb h at) ⌝ }
+// Whether the clump c at h is FREE and starts at an offset or, to find the one below, ends there.
+fn is_beside(c: Clump, h: usize, at: usize, below: bool) -> bool
+    requires { ⌜ h + c .nbytes < wordValues ⌝ }
+    ensures { λ r. ⌜ r ≡ beside below at (headOf h c) ⌝ }
 {
-    if c.state == Clump::FREE {
-        return h == at;
+    if c.state != Clump::FREE {
+        return false;
     }
-    false
+    if below {
+        return h + c.nbytes as usize == at;
+    }
+    h == at
 }
 
-// The FREE clump that starts at an offset, or the image's length.
-fn free_from(img: &[u8], at: usize) -> usize
+// The FREE clump that starts at an offset or, below it, ends there; or the image's length.
+fn free_beside(img: &[u8], at: usize, below: bool) -> usize
     requires { ⌜ Tiled (now img) ⌝ }
-    ensures { λ r. ⌜ r ≡ offsetOf (length (now (img .entry))) (seek (λ k. isFree k && eqb (k .at) at) (clumpsOf (now (img .entry)))) ⌝ }
+    ensures { λ r. ⌜ r ≡ offsetOf (length (now (img .entry))) (seek (beside below at) (clumpsOf (now (img .entry)))) ⌝ }
 {
     let mut h: usize = CLUMPS_AT;
     loop {
@@ -90,29 +93,10 @@ fn free_from(img: &[u8], at: usize) -> usize
             return img.len();
         }
         let c = Clump::read(img, h);
-        if is_free_at(c, h, at) {
+        if is_beside(c, h, at, below) {
             return h;
         }
         h += c.nbytes as usize;
-    }
-}
-
-// The FREE clump that ends at an offset, or the image's length.
-fn free_to(img: &[u8], at: usize) -> usize
-    requires { ⌜ Tiled (now img) ⌝ }
-    ensures { λ r. ⌜ r ≡ offsetOf (length (now (img .entry))) (seek (λ k. isFree k && eqb (endOf k) at) (clumpsOf (now (img .entry)))) ⌝ }
-{
-    let mut h: usize = CLUMPS_AT;
-    loop {
-        if img.len() <= h {
-            return img.len();
-        }
-        let c = Clump::read(img, h);
-        let end = h + c.nbytes as usize;
-        if is_free_at(c, end, at) {
-            return h;
-        }
-        h = end;
     }
 }
 
@@ -167,8 +151,8 @@ fn release(
     requires { ⌜ Turned (now img) h state nbytes l ⌝ }
     ensures { λ r. ⌜ Acts (now (img .entry)) (granted offset (freeStores (mem (now (img .entry))) (clumpsOf (now (img .entry))) (head (mem (now (img .entry))) h))) fuse (now (img .exit)) r ⌝ }
 {
-    let next = bytes_at(img, free_from(img, h + nbytes as usize));
-    let below = free_to(img, h);
+    let next = bytes_at(img, free_beside(img, h + nbytes as usize, false));
+    let below = free_beside(img, h, true);
     let under = bytes_at(img, below);
     let both = nbytes + next;
     let all = under + both;

@@ -4,10 +4,10 @@ use Prim.Native.Nat.{ℕ}
 use mathlib.Core.Bool.{Bool, true, _&&_, _||_}
 use mathlib.Core.List.{List, [], _∷_}
 use lib.Dec.{eqb}
-use lib.ListN.{getD}
 use mathlib.Core.Option.{Option, some, none}
-use Rattle.rules.specs.Clumps.{Head, isLive, bodyOf, endOf}
-use Rattle.rules.specs.Sound.{lies, isValid}
+use Rattle.rules.specs.Clumps.{Head}
+use Rattle.rules.specs.Sound.{isValid}
+use Rattle.page.specs.Forms.{targetOf}
 use Rattle.walk.specs.declared.Found.{Found}
 use Rattle.walk.specs.declared.Found.the-variants.{At, Nothing}
 
@@ -21,11 +21,7 @@ abbrev pub offsetOf : ℕ → Option Head → ℕ
 offsetOf n none = n
 offsetOf n (some h) = h .at
 
--- the word at t lies in the body of a live clump: the rule's test of a target, named
-abbrev pub holdsWord : ℕ → Head → Bool
-holdsWord t h = isLive h && lies (bodyOf h) (endOf h) t
-
 -- every used target of a list that was read is valid
 unfoldable pub listValid : List Head → List (List ℕ) → Bool
 listValid hs [] = true
-listValid hs (e ∷ es) = (eqb (getD e 0 0) 0 || isValid hs (getD e 0 0)) && listValid hs es
+listValid hs (e ∷ es) = (eqb (targetOf e) 0 || isValid hs (targetOf e)) && listValid hs es

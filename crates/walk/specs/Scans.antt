@@ -1,38 +1,30 @@
--- Laws of the searches over the clumps: need against nbytes without computing need, a word in a part without a sum, and the
--- searches' answers at the end, at a hit and past a clump. Assumes nothing.
-use Prim.Native.Nat.{ℕ, _+_, _-_, _*_, _/_, _<_, _≤_}
+-- Laws of the searches over the clumps: a word in a part without a sum, what the offset or the enum of a search tells in clumps that
+-- tile, and the targets of a list that was read, one entry after the other. Assumes nothing.
+use Prim.Native.Nat.{ℕ, zero, suc, _+_, _-_, _<_, _≤_}
 use mathlib.Core.Path.{_≡_, refl, sym, ap, _∙_}
-use mathlib.Core.List.{List, [], _∷_}
-use mathlib.Core.Bool.{Bool, true, false, _&&_, _||_}
+use mathlib.Core.List.{List, [], _∷_, map}
+use mathlib.Core.Bool.{Bool, true, false, cond, not, _&&_, _||_}
 use mathlib.Core.Option.{Option, some, none}
 use native.Mathlib.Omega.{arith}
 use native.Mathlib.Numerals.{add-one}
 use lib.ListN.{length, getD, drop, drop-of-length-le}
 use lib.Seq.{drop-cons}
 use lib.Dec.{leb, eqb}
-use borrow.Author.Tests.{lt-leb, le-leb}
+use borrow.Author.Tests.{lt-leb, le-leb, ne-eqb}
 use Rattle.rules.specs.Lists.{seek, those, all}
 use Rattle.rules.specs.Words.{Mem}
 use Rattle.rules.specs.Pages.{clumpsAt}
-use Rattle.rules.specs.Clumps.{Head, head, bodyOf, Tiles, walk}
+use Rattle.rules.specs.Clumps.{Head, head, bodyOf, slots, isUsed, Tiles, walk}
 use Rattle.rules.specs.Sound.{lies, isValid, allValid}
-use Rattle.rules.specs.Stores.{needOf}
 use Rattle.rules.specs.Requests.{finder}
 use Rattle.word.specs.Tests.{leb-same}
+use Rattle.laws.specs.Searches.{and-both}
 use Rattle.laws.specs.Walking.{Inside, seek-placed}
+use Rattle.laws.specs.Lying.{valid-in}
 use Rattle.walk.specs.Forms.{offsetOf, foundOf, listValid}
-use Rattle.page.specs.Forms.{listAt}
-use Rattle.page.specs.Slots.{all-step}
+use Rattle.page.specs.Forms.{entryAt, targetOf, listAt, InImage}
 use Rattle.walk.specs.declared.Found.{Found}
 use Rattle.walk.specs.declared.Found.the-variants.{At, Nothing}
-
-pub need-small : (n size : ℕ) → n < 64 → false ≡ leb (needOf size) n
-unfolding needOf
-need-small n size l = sym (lt-leb _ n (omega arith))
-
-pub need-room : (n size : ℕ) → 64 ≤ n → leb size ((n - 64) / 64 * 64) ≡ leb (needOf size) n
-unfolding needOf
-need-room n size l = leb-same size ((n - 64) / 64 * 64) (64 + (size + 63) / 64 * 64) n (λ k. omega arith) (λ k. omega arith)
 
 -- the word at t in a up to b
 pub lies-below : (a b t : ℕ) → t < a → false ≡ lies a b t
@@ -89,30 +81,45 @@ module _ (n : ℕ) (m : Mem) (body : ℕ) (tiles : Tiles clumpsAt (walk n m) n) 
   pub found-inside : (h : ℕ) → r ≡ At h → Inside n m h
   found-inside h f = seek-placed n m (λ c. eqb (bodyOf c) body) (head m h) tiles (found-some h f) .inside
 
--- the list that was read from a clump
+-- the list that was read from a clump, one entry after the other
+valid-from : (m : Mem) (hs : List Head) (sl : List ℕ) → listValid hs (map (entryAt m) sl) ≡ all (λ s. isValid hs (m s)) (those (isUsed m) sl)
+unfolding listValid those all
+valid-from m hs [] = refl
+valid-from m hs (s ∷ sl) = go (eqb (m s) 0) (valid-from m hs sl)
+  where
+    go :
+        (b : Bool)
+        → listValid hs (map (entryAt m) sl) ≡ all (λ r. isValid hs (m r)) (those (isUsed m) sl)
+        → ((b || isValid hs (m s)) && listValid hs (map (entryAt m) sl)) ≡ all (λ r. isValid hs (m r)) (cond (not b) (s ∷ those (isUsed m) sl) (those (isUsed m) sl))
+    go true e = e
+    go false e = ap (λ (c : Bool). isValid hs (m s) && c) e
+
 pub list-valid : (m : Mem) (hs : List Head) (a : ℕ) (l : List (List ℕ)) → l ≡ listAt m a → listValid hs l ≡ allValid m hs (head m a)
-unfolding listValid allValid those all
-list-valid m hs a l e =
-    let q = isValid hs in
-    rw e
-    (sym
-    (all-step q m (a + 16) ((a + 32) ∷ (a + 48) ∷ []) (m (a + 16)) refl
-    ∙ ap (λ (b : Bool). (eqb (m (a + 16)) 0 || q (m (a + 16))) && b)
-    (all-step q m (a + 32) ((a + 48) ∷ []) (m (a + 32)) refl
-    ∙ ap (λ (b : Bool). (eqb (m (a + 32)) 0 || q (m (a + 32))) && b) (all-step q m (a + 48) [] (m (a + 48)) refl))))
+unfolding allValid
+list-valid m hs a l e = rw e (valid-from m hs (slots a))
 
 -- a loop over the list: what is left of it still has the answer of the whole
 module _ (hs : List Head) (l : List (List ℕ)) (i : ℕ) (u : i < length l) (w : listValid hs (drop i l) ≡ listValid hs l) where
-  here : listValid hs (drop i l) ≡ ((eqb (getD (getD l i []) 0 0) 0 || isValid hs (getD (getD l i []) 0 0)) && listValid hs (drop (i + 1) l))
+  here : listValid hs (drop i l) ≡ ((eqb (targetOf (getD l i [])) 0 || isValid hs (targetOf (getD l i []))) && listValid hs (drop (i + 1) l))
   unfolding listValid
   here = rw (add-one, drop-cons l i [] u)
 
-  pub valid-stop : (eqb (getD (getD l i []) 0 0) 0 || isValid hs (getD (getD l i []) 0 0)) ≡ false → false ≡ listValid hs l
+  pub valid-stop : (eqb (targetOf (getD l i [])) 0 || isValid hs (targetOf (getD l i []))) ≡ false → false ≡ listValid hs l
   valid-stop f = sym (sym w ∙ here ∙ rw f)
 
-  pub valid-go : (eqb (getD (getD l i []) 0 0) 0 || isValid hs (getD (getD l i []) 0 0)) ≡ true → listValid hs (drop (i + 1) l) ≡ listValid hs l
+  pub valid-go : (eqb (targetOf (getD l i [])) 0 || isValid hs (targetOf (getD l i []))) ≡ true → listValid hs (drop (i + 1) l) ≡ listValid hs l
   valid-go f = sym (here ∙ rw f) ∙ w
 
 pub valid-end : (hs : List Head) (l : List (List ℕ)) (i : ℕ) → length l ≤ i → listValid hs (drop i l) ≡ listValid hs l → true ≡ listValid hs l
 unfolding listValid
 valid-end hs l i u w = rw (drop-of-length-le l u) at w
+
+-- the used targets of a valid list lie in the image
+valid-at : (hs : List Head) (l : List (List ℕ)) (i : ℕ) → listValid hs l ≡ true → (targetOf (getD l i []) ≡ 0 → ⊥) → isValid hs (targetOf (getD l i [])) ≡ true
+unfolding listValid
+valid-at hs [] i e h = absurd (h refl)
+valid-at hs (x ∷ l) zero e h = rw (ne-eqb (targetOf x) 0 h) at (and-both (eqb (targetOf x) 0 || isValid hs (targetOf x)) (listValid hs l) e .0)
+valid-at hs (x ∷ l) (suc i) e h = valid-at hs l i (and-both (eqb (targetOf x) 0 || isValid hs (targetOf x)) _ e .1) h
+
+pub list-in : (n : ℕ) (m : Mem) (l : List (List ℕ)) → Tiles clumpsAt (walk n m) n → listValid (walk n m) l ≡ true → InImage n l
+list-in n m l t e i u h = valid-in n m (targetOf (getD l i [])) t (valid-at (walk n m) l i e h)

@@ -2,18 +2,18 @@
 // called once `judge` has found no fault.
 ghost use mathlib.Core.Path.{_≡_};
 ghost use mathlib.Core.Bool.{_||_};
-ghost use Prim.Native.Nat.{_+_, _%_, _≤_, _<_};
+ghost use Prim.Native.Nat.{_+_, _%_, _<_};
 ghost use lib.ListN.{length};
 ghost use lib.Dec.{eqb, leb};
 ghost use Rattle.rules.specs.Lists.{seek, any};
-ghost use Rattle.rules.specs.Words.{mem, wordBytes, wordValues};
-ghost use Rattle.rules.specs.Clumps.{head, headerBytes, isLive, bodyOf, endOf};
-ghost use Rattle.rules.specs.Sound.{lies, isValid, allValid};
+ghost use Rattle.rules.specs.Words.{wordValues};
+ghost use Rattle.rules.specs.Clumps.{headerBytes};
+ghost use Rattle.rules.specs.Sound.{lies, holdsWord, isValid};
 ghost use Rattle.rules.specs.Stores.{needOf, fits};
 ghost use Rattle.rules.specs.Requests.{finder};
 ghost use Rattle.rules.specs.Reading.{clumpsOf, Tiled};
 ghost use Rattle.page.specs.Forms.{headOf};
-ghost use Rattle.walk.specs.Forms.{foundOf, offsetOf, holdsWord, listValid};
+ghost use Rattle.walk.specs.Forms.{foundOf, offsetOf, listValid};
 use page::CLUMPS_AT;
 use page::STATIC_AT;
 use page::STATIC_END;

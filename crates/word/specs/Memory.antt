@@ -1,11 +1,11 @@
 -- Memories under stores, and the bridge from images: an aligned store to an image is that store to its memory.
 -- The bridge goes by the laws of parts, at eight bytes. Assumes nothing.
-use Prim.Native.Nat.{ℕ, _+_, _-_, _%_, _<_, _≤_}
+use Prim.Native.Nat.{ℕ, zero, suc, _+_, _-_, _%_, _<_, _≤_}
 use mathlib.Core.Path.{_≡_, refl, sym, _∙_, ap, fun-ext}
 use mathlib.Core.Bool.{Bool, true, false}
 use mathlib.Core.List.{List, [], _∷_, _++_}
 use mathlib.Core.Logic.{_⊎_, inl, inr, ⊎-elim}
-use lib.ListN.{length, getD}
+use lib.ListN.{length, getD, take}
 use lib.Dec.{eqb, ltb}
 use native.Mathlib.Omega.{arith}
 use borrow.Author.Tests.{eqb-true, eqb-false, ltb-true, ltb-false, eq-eqb, ne-eqb}
@@ -32,6 +32,17 @@ pub carry-append : (img : Image) (p q : List Store) → carry img (p ++ q) ≡ c
 unfolding carry
 carry-append img [] q = refl
 carry-append img (s ∷ p) q = carry-append (put img (s .to) (s .word)) p q
+
+-- the stores of a list go below b
+abbrev pub Below : ℕ → List Store → Type 0
+Below b st = Each (λ s. s .to < b) st
+
+-- they keep every word from b on
+pub below-after : (k : ℕ) (st : List Store) (m : Mem) (b o : ℕ) → Below b st → b ≤ o → after m (take k st) o ≡ m o
+unfolding after
+below-after zero st m b o f l = refl
+below-after (suc k) [] m b o f l = refl
+below-after (suc k) (s ∷ st) m b o f l = below-after k st (upd m (s .to) (s .word)) b o (f .1) l ∙ upd-other m (s .to) (s .word) o (omega (arith, f .0))
 
 -- the word of an image at an aligned offset
 pub mem-at : (img : Image) (o : ℕ) → o % wordBytes ≡ 0 → mem img o ≡ wordAt img o

@@ -9,8 +9,8 @@ use native.Mathlib.Nat.{suc-sub-suc, zero-sub, sub-zero, add-zero, zero-add, min
 use native.Mathlib.Decide.{decLt}
 use lib.Dec.{ltb}
 use lib.ListN.{length, take, length-append, length-take}
-use lib.Seq.{take-nil}
-use borrow.Author.Tests.{lt-ltb, le-ltb}
+use lib.Seq.{take-nil, take-all, take-append-le}
+use borrow.Author.Tests.{lt-ltb, le-ltb, ltb-true, ltb-false}
 use Rattle.rules.specs.Words.{Image, Mem, Store, Aligned, put, mem, upd, after, carry}
 use Rattle.rules.specs.Answers.{granted, answerAt, answerOf}
 use Rattle.word.specs.Tests.{ltb-same}
@@ -87,6 +87,10 @@ ran-then {img} {x} {y} {p} {q} {r} {st} {ts} a b =
       sum = omega (arith, a .sum, b .sum);
     }
 
+-- the same run under another name
+pub ran-as : {img x : Image} {p q : Power} (st ts : List Store) → ts ≡ st → Ran img p st x q → Ran img p ts x q
+ran-as st ts e r = rw e r
+
 -- no store
 pub ran-none : (img : Image) (p : Power) → Ran img p [] img p
 unfolding carry after spent
@@ -141,6 +145,30 @@ ran-one img p s l a =
     cut-one : (b : Bool) (f : ℕ) → 0 < f → cutBy b f 1 ≡ b
     cut-one true f h = unfold cutBy in refl
     cut-one false f h = unfold cutBy in le-ltb f 1 h
+
+-- a run that was not cut made all its stores
+pub ran-whole : {img x : Image} {p q : Power} {st : List Store} → Ran img p st x q → p .cut ≡ false → q .cut ≡ false → mem x ≡ after (mem img) st
+unfolding spent cutBy
+ran-whole {img} {x} {p} {q} {st} r e f =
+    let g : ltb (p .left) (length st) ≡ false = rw e at (sym (ap (λ (k : Power). k .cut) (r .power)) ∙ f) in
+    r .memory ∙ ap (after (mem img)) (take-all (p .left) st (ltb-false (p .left) (length st) g))
+
+-- a run that was cut is cut whatever comes after it
+pub ran-cut : {img x : Image} {q : Power} (fuse : ℕ) (st ts : List Store) → Ran img (full fuse) st x q → q .cut ≡ true → Ran img (full fuse) (st ++ ts) x q
+unfolding spent cutBy
+ran-cut {img} {x} {q} fuse st ts r e =
+    let g : ltb fuse (length st) ≡ true = sym (ap (λ (k : Power). k .cut) (r .power)) ∙ e in
+    let l = ltb-true fuse (length st) g in
+    let t : take fuse (st ++ ts) ≡ take fuse st = take-append-le fuse st ts (omega arith) in
+    let a : fuse - (length st + length ts) ≡ fuse - length st = omega arith in
+    let b : 0 + min fuse (length st + length ts) ≡ 0 + min fuse (length st) = omega arith in
+    record {
+      image = rw t (r .image);
+      memory = rw t (r .memory);
+      long = r .long;
+      power = rw (length-append, a, b, lt-ltb fuse (length st + length ts) (omega arith)) (r .power ∙ rw g);
+      sum = r .sum;
+    }
 
 -- what the power tells after all of a request's stores is the answer that the list and the fuse give
 pub ran-answer :

@@ -4,7 +4,7 @@ ghost use mathlib.Core.Path.{_≡_};
 ghost use mathlib.Core.List.{[], _∷_};
 ghost use Prim.Native.Nat.{_+_, _*_, _%_, _≤_, _<_};
 ghost use lib.ListN.{length};
-ghost use Rattle.rules.specs.Words.{wordBytes, byteValues, wordValues, le, puts, put, mem, store};
+ghost use Rattle.rules.specs.Words.{wordBytes, wordValues, le, puts, put, mem, store};
 ghost use Rattle.word.specs.Runs.{full, Ran};
 
 // The widths of the types bound the numbers, so that no sum needs a proof.

@@ -7,7 +7,7 @@ use Rattle.rules.specs.Clumps.{head}
 use Rattle.rules.specs.Reading.{clumpsOf}
 use Rattle.word.specs.Runs.{ran-then}
 use Rattle.steps.specs.Acts.{acts-same, acts-refused, acts-ran}
-use Rattle.list.specs.Slots.{empty-none, empty-some, empty-in, enlist-state, enlist-full, enlist-bad, enlist-done}
+use Rattle.list.specs.Slots.{empty-is, empty-in, enlist-state, enlist-full, enlist-bad, enlist-done}
 use borrow.Author.Needs.{needs}
 use Rattle.list.proofs.enlist_at.Statement.{statement}
 use Rattle.list.proofs.enlist_at.Tie as tie
@@ -37,7 +37,7 @@ same-length-2 : tie.Need-same-length-2
 same-length-2 c = search needs
 
 returns-2 : tie.Need-returns-2
-returns-2 c = rw (c .refusal2 .ensures) (acts-same _ _ (enlist-full (mem (c .before .before .before .before .before .before .before .before .before .before .args .img .now)) (clumpsOf (c .before .before .before .before .before .before .before .before .before .before .args .img .now)) (c .before .before .before .before .before .before .before .before .before .before .args .allowed) (c .before .before .before .before .before .before .before .before .before .before .args .offset) (c .before .before .before .before .before .before .before .before .before .before .args .target) (c .before .before .before .before .before .before .before .before .before .before .args .value) (head (mem (c .before .before .before .before .before .before .before .before .before .before .args .img .now)) (c .before .before .before .before .before .before .before .before .before .before .args .h)) (let x = c .before .before .before .before .before .before .before .read .ensures .1 in cc (eq-eqb (c .before .before .before .before .before .before .before .read .result .state) (c .before .before .before .before .before .before .before .before .before .before .args .allowed) (c .before .before .before .before .before .if1 .left))) (empty-none (mem (c .before .before .before .before .before .before .before .before .before .before .args .img .now)) (c .before .before .before .before .before .before .before .before .before .before .args .h) _ _ (c .before .before .before .list .ensures) (c .before .before .empty-slot .ensures) (c .before .if2 .taken))) (acts-refused _ _ _ _ _))
+returns-2 c = rw (c .refusal2 .ensures) (acts-same _ _ (enlist-full (mem (c .before .before .before .before .before .before .before .before .before .before .args .img .now)) (clumpsOf (c .before .before .before .before .before .before .before .before .before .before .args .img .now)) (c .before .before .before .before .before .before .before .before .before .before .args .allowed) (c .before .before .before .before .before .before .before .before .before .before .args .offset) (c .before .before .before .before .before .before .before .before .before .before .args .target) (c .before .before .before .before .before .before .before .before .before .before .args .value) (head (mem (c .before .before .before .before .before .before .before .before .before .before .args .img .now)) (c .before .before .before .before .before .before .before .before .before .before .args .h)) (let x = c .before .before .before .before .before .before .before .read .ensures .1 in cc (eq-eqb (c .before .before .before .before .before .before .before .read .result .state) (c .before .before .before .before .before .before .before .before .before .before .args .allowed) (c .before .before .before .before .before .if1 .left))) _ (empty-is (mem (c .before .before .before .before .before .before .before .before .before .before .args .img .now)) (c .before .before .before .before .before .before .before .before .before .before .args .h) _ _ (c .before .before .before .list .ensures) (c .before .before .empty-slot .ensures)) (c .before .if2 .taken)) (acts-refused _ _ _ _ _))
 
 valid-requires : tie.Need-valid-requires
 valid-requires c κs = search needs
@@ -49,7 +49,7 @@ same-length-3 : tie.Need-same-length-3
 same-length-3 c = search needs
 
 returns-3 : tie.Need-returns-3
-returns-3 c = rw (c .refusal3 .ensures) (acts-same _ _ (enlist-bad (mem (c .before .before .before .before .before .before .before .before .before .before .before .before .before .args .img .now)) (clumpsOf (c .before .before .before .before .before .before .before .before .before .before .before .before .before .args .img .now)) (c .before .before .before .before .before .before .before .before .before .before .before .before .before .args .allowed) (c .before .before .before .before .before .before .before .before .before .before .before .before .before .args .offset) (c .before .before .before .before .before .before .before .before .before .before .before .before .before .args .target) (c .before .before .before .before .before .before .before .before .before .before .before .before .before .args .value) (head (mem (c .before .before .before .before .before .before .before .before .before .before .before .before .before .args .img .now)) (c .before .before .before .before .before .before .before .before .before .before .before .before .before .args .h)) (let x = c .before .before .before .before .before .before .before .before .before .before .read .ensures .1 in cc (eq-eqb (c .before .before .before .before .before .before .before .before .before .before .read .result .state) (c .before .before .before .before .before .before .before .before .before .before .before .before .before .args .allowed) (c .before .before .before .before .before .before .before .before .if1 .left))) _ (empty-some (mem (c .before .before .before .before .before .before .before .before .before .before .before .before .before .args .img .now)) (c .before .before .before .before .before .before .before .before .before .before .before .before .before .args .h) _ _ (c .before .before .before .before .before .before .list .ensures) (c .before .before .before .before .before .empty-slot .ensures) (c .before .before .before .before .if2 .left)) (sym (c .before .before .valid .ensures) ∙ not-true _ (c .before .if3 .taken))) (acts-refused _ _ _ _ _))
+returns-3 c = rw (c .refusal3 .ensures) (acts-same _ _ (enlist-bad (mem (c .before .before .before .before .before .before .before .before .before .before .before .before .before .args .img .now)) (clumpsOf (c .before .before .before .before .before .before .before .before .before .before .before .before .before .args .img .now)) (c .before .before .before .before .before .before .before .before .before .before .before .before .before .args .allowed) (c .before .before .before .before .before .before .before .before .before .before .before .before .before .args .offset) (c .before .before .before .before .before .before .before .before .before .before .before .before .before .args .target) (c .before .before .before .before .before .before .before .before .before .before .before .before .before .args .value) (head (mem (c .before .before .before .before .before .before .before .before .before .before .before .before .before .args .img .now)) (c .before .before .before .before .before .before .before .before .before .before .before .before .before .args .h)) (let x = c .before .before .before .before .before .before .before .before .before .before .read .ensures .1 in cc (eq-eqb (c .before .before .before .before .before .before .before .before .before .before .read .result .state) (c .before .before .before .before .before .before .before .before .before .before .before .before .before .args .allowed) (c .before .before .before .before .before .before .before .before .if1 .left))) _ (empty-is (mem (c .before .before .before .before .before .before .before .before .before .before .before .before .before .args .img .now)) (c .before .before .before .before .before .before .before .before .before .before .before .before .before .args .h) _ _ (c .before .before .before .before .before .before .list .ensures) (c .before .before .before .before .before .empty-slot .ensures)) (c .before .before .before .before .if2 .left) (sym (c .before .before .valid .ensures) ∙ not-true _ (c .before .if3 .taken))) (acts-refused _ _ _ _ _))
 
 new-requires : tie.Need-new-requires
 new-requires c κs = search needs
@@ -79,7 +79,7 @@ same-length-4 : tie.Need-same-length-4
 same-length-4 c = search needs
 
 returns-4 : tie.Need-returns-4
-returns-4 c = acts-same _ _ (enlist-done (mem (c .before .before .before .before .before .before .before .before .before .before .before .before .before .before .before .before .before .before .before .before .before .before .args .img .now)) (clumpsOf (c .before .before .before .before .before .before .before .before .before .before .before .before .before .before .before .before .before .before .before .before .before .before .args .img .now)) (c .before .before .before .before .before .before .before .before .before .before .before .before .before .before .before .before .before .before .before .before .before .before .args .allowed) (c .before .before .before .before .before .before .before .before .before .before .before .before .before .before .before .before .before .before .before .before .before .before .args .offset) (c .before .before .before .before .before .before .before .before .before .before .before .before .before .before .before .before .before .before .before .before .before .before .args .target) (c .before .before .before .before .before .before .before .before .before .before .before .before .before .before .before .before .before .before .before .before .before .before .args .value) (head (mem (c .before .before .before .before .before .before .before .before .before .before .before .before .before .before .before .before .before .before .before .before .before .before .args .img .now)) (c .before .before .before .before .before .before .before .before .before .before .before .before .before .before .before .before .before .before .before .before .before .before .args .h)) (let x = c .before .before .before .before .before .before .before .before .before .before .before .before .before .before .before .before .before .before .before .read .ensures .1 in cc (eq-eqb (c .before .before .before .before .before .before .before .before .before .before .before .before .before .before .before .before .before .before .before .read .result .state) (c .before .before .before .before .before .before .before .before .before .before .before .before .before .before .before .before .before .before .before .before .before .before .args .allowed) (c .before .before .before .before .before .before .before .before .before .before .before .before .before .before .before .before .before .if1 .left))) _ (empty-some (mem (c .before .before .before .before .before .before .before .before .before .before .before .before .before .before .before .before .before .before .before .before .before .before .args .img .now)) (c .before .before .before .before .before .before .before .before .before .before .before .before .before .before .before .before .before .before .before .before .before .before .args .h) _ _ (c .before .before .before .before .before .before .before .before .before .before .before .before .before .before .before .list .ensures) (c .before .before .before .before .before .before .before .before .before .before .before .before .before .before .empty-slot .ensures) (c .before .before .before .before .before .before .before .before .before .before .before .before .before .if2 .left)) (sym (c .before .before .before .before .before .before .before .before .before .before .before .valid .ensures) ∙ not-false _ (c .before .before .before .before .before .before .before .before .before .before .if3 .left)))
+returns-4 c = acts-same _ _ (enlist-done (mem (c .before .before .before .before .before .before .before .before .before .before .before .before .before .before .before .before .before .before .before .before .before .before .args .img .now)) (clumpsOf (c .before .before .before .before .before .before .before .before .before .before .before .before .before .before .before .before .before .before .before .before .before .before .args .img .now)) (c .before .before .before .before .before .before .before .before .before .before .before .before .before .before .before .before .before .before .before .before .before .before .args .allowed) (c .before .before .before .before .before .before .before .before .before .before .before .before .before .before .before .before .before .before .before .before .before .before .args .offset) (c .before .before .before .before .before .before .before .before .before .before .before .before .before .before .before .before .before .before .before .before .before .before .args .target) (c .before .before .before .before .before .before .before .before .before .before .before .before .before .before .before .before .before .before .before .before .before .before .args .value) (head (mem (c .before .before .before .before .before .before .before .before .before .before .before .before .before .before .before .before .before .before .before .before .before .before .args .img .now)) (c .before .before .before .before .before .before .before .before .before .before .before .before .before .before .before .before .before .before .before .before .before .before .args .h)) (let x = c .before .before .before .before .before .before .before .before .before .before .before .before .before .before .before .before .before .before .before .read .ensures .1 in cc (eq-eqb (c .before .before .before .before .before .before .before .before .before .before .before .before .before .before .before .before .before .before .before .read .result .state) (c .before .before .before .before .before .before .before .before .before .before .before .before .before .before .before .before .before .before .before .before .before .before .args .allowed) (c .before .before .before .before .before .before .before .before .before .before .before .before .before .before .before .before .before .if1 .left))) _ (empty-is (mem (c .before .before .before .before .before .before .before .before .before .before .before .before .before .before .before .before .before .before .before .before .before .before .args .img .now)) (c .before .before .before .before .before .before .before .before .before .before .before .before .before .before .before .before .before .before .before .before .before .before .args .h) _ _ (c .before .before .before .before .before .before .before .before .before .before .before .before .before .before .before .list .ensures) (c .before .before .before .before .before .before .before .before .before .before .before .before .before .before .empty-slot .ensures)) (c .before .before .before .before .before .before .before .before .before .before .before .before .before .if2 .left) (sym (c .before .before .before .before .before .before .before .before .before .before .before .valid .ensures) ∙ not-false _ (c .before .before .before .before .before .before .before .before .before .before .if3 .left)))
     (acts-ran _ _ (ran-then (rw (c .before .before .before .before .before .before .before .before .before .new .ensures) at (c .before .before .before .before .before .before .before .store .ensures)) (c .before .before .before .store2 .ensures)) (c .finish .ensures))
 
 pub enlist-at-spec : {M : Type 1} → statement M

@@ -5,7 +5,7 @@ use borrow.Author.Tests.{not-true, not-false}
 use Rattle.rules.specs.Words.{mem}
 use Rattle.rules.specs.Clumps.{head}
 use Rattle.steps.specs.Acts.{acts-same, acts-refused, acts-ran}
-use Rattle.list.specs.Slots.{last-in, withdraw-state, withdraw-is, withdrawn-none, withdrawn-some}
+use Rattle.list.specs.Slots.{withdrawn-is, last-in, withdraw-state, withdraw-empty, withdraw-done}
 use borrow.Author.Needs.{needs}
 use Rattle.list.proofs.withdraw_at.Statement.{statement}
 use Rattle.list.proofs.withdraw_at.Tie as tie
@@ -38,7 +38,7 @@ same-length-2 : tie.Need-same-length-2
 same-length-2 c = search needs
 
 returns-2 : tie.Need-returns-2
-returns-2 c = rw (c .refusal2 .ensures) (acts-same _ _ (withdraw-is (mem (c .before .before .before .before .before .before .before .before .before .before .args .img .now)) (c .before .before .before .before .before .before .before .before .before .before .args .offset) (head (mem (c .before .before .before .before .before .before .before .before .before .before .args .img .now)) (c .before .before .before .before .before .before .before .before .before .before .args .h)) (let x = c .before .before .before .before .before .before .before .read .ensures .1 in let y = not-false (c .before .before .before .before .before .before .waits .result) (c .before .before .before .before .before .if1 .left) in cc) ∙ withdrawn-none (mem (c .before .before .before .before .before .before .before .before .before .before .args .img .now)) (c .before .before .before .before .before .before .before .before .before .before .args .h) _ _ (c .before .before .before .list .ensures) (c .before .before .before .before .before .before .before .before .before .before .args .offset) (c .before .before .last-slot .ensures) (c .before .if2 .taken)) (acts-refused _ _ _ _ _))
+returns-2 c = rw (c .refusal2 .ensures) (acts-same _ _ (withdraw-empty (mem (c .before .before .before .before .before .before .before .before .before .before .args .img .now)) (c .before .before .before .before .before .before .before .before .before .before .args .offset) (head (mem (c .before .before .before .before .before .before .before .before .before .before .args .img .now)) (c .before .before .before .before .before .before .before .before .before .before .args .h)) (let x = c .before .before .before .before .before .before .before .read .ensures .1 in let y = not-false (c .before .before .before .before .before .before .waits .result) (c .before .before .before .before .before .if1 .left) in cc) _ (withdrawn-is (mem (c .before .before .before .before .before .before .before .before .before .before .args .img .now)) (c .before .before .before .before .before .before .before .before .before .before .args .h) _ _ (c .before .before .before .list .ensures) (c .before .before .before .before .before .before .before .before .before .before .args .offset) (c .before .before .last-slot .ensures)) (c .before .if2 .taken)) (acts-refused _ _ _ _ _))
 
 new-requires : tie.Need-new-requires
 new-requires c κs = search needs
@@ -56,7 +56,7 @@ same-length-3 : tie.Need-same-length-3
 same-length-3 c = search needs
 
 returns-3 : tie.Need-returns-3
-returns-3 c = acts-same _ _ (withdraw-is (mem (c .before .before .before .before .before .before .before .before .before .before .before .before .before .before .before .args .img .now)) (c .before .before .before .before .before .before .before .before .before .before .before .before .before .before .before .args .offset) (head (mem (c .before .before .before .before .before .before .before .before .before .before .before .before .before .before .before .args .img .now)) (c .before .before .before .before .before .before .before .before .before .before .before .before .before .before .before .args .h)) (let x = c .before .before .before .before .before .before .before .before .before .before .before .before .read .ensures .1 in let y = not-false (c .before .before .before .before .before .before .before .before .before .before .before .waits .result) (c .before .before .before .before .before .before .before .before .before .before .if1 .left) in cc) ∙ withdrawn-some (mem (c .before .before .before .before .before .before .before .before .before .before .before .before .before .before .before .args .img .now)) (c .before .before .before .before .before .before .before .before .before .before .before .before .before .before .before .args .h) _ _ (c .before .before .before .before .before .before .before .before .list .ensures) (c .before .before .before .before .before .before .before .before .before .before .before .before .before .before .before .args .offset) (c .before .before .before .before .before .before .before .last-slot .ensures) (c .before .before .before .before .before .before .if2 .left))
+returns-3 c = acts-same _ _ (withdraw-done (mem (c .before .before .before .before .before .before .before .before .before .before .before .before .before .before .before .args .img .now)) (c .before .before .before .before .before .before .before .before .before .before .before .before .before .before .before .args .offset) (head (mem (c .before .before .before .before .before .before .before .before .before .before .before .before .before .before .before .args .img .now)) (c .before .before .before .before .before .before .before .before .before .before .before .before .before .before .before .args .h)) (let x = c .before .before .before .before .before .before .before .before .before .before .before .before .read .ensures .1 in let y = not-false (c .before .before .before .before .before .before .before .before .before .before .before .waits .result) (c .before .before .before .before .before .before .before .before .before .before .if1 .left) in cc) _ (withdrawn-is (mem (c .before .before .before .before .before .before .before .before .before .before .before .before .before .before .before .args .img .now)) (c .before .before .before .before .before .before .before .before .before .before .before .before .before .before .before .args .h) _ _ (c .before .before .before .before .before .before .before .before .list .ensures) (c .before .before .before .before .before .before .before .before .before .before .before .before .before .before .before .args .offset) (c .before .before .before .before .before .before .before .last-slot .ensures)) (c .before .before .before .before .before .before .if2 .left))
     (acts-ran _ _ (rw (c .before .before .before .before .before .new .ensures) at (c .before .before .before .store .ensures)) (c .finish .ensures))
 
 pub withdraw-at-spec : {M : Type 1} → statement M

@@ -4,11 +4,9 @@ use mathlib.Core.Path.{_∙_}
 use Rattle.rules.specs.Words.{mem}
 use Rattle.rules.specs.Clumps.{isPending}
 use Rattle.rules.specs.Reading.{clumpsOf}
-use Rattle.word.specs.Runs.{ran-none}
+use Rattle.word.specs.Runs.{ran-as, ran-none}
 use Rattle.laws.specs.Mending.{targets-valid}
-use Rattle.walk.specs.Scans.{offset-none, offset-some, offset-inside, list-valid}
-use Rattle.steps.specs.Loops.{ran-as}
-use Rattle.turn.specs.Turns.{list-in}
+use Rattle.walk.specs.Scans.{offset-none, offset-some, offset-inside, list-valid, list-in}
 use Rattle.mend.specs.Recovering.{finish-none, finish-activates, finish-frees}
 use borrow.Author.Needs.{needs}
 use Rattle.mend.proofs.finish_pending.Statement.{statement}

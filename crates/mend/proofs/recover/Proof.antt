@@ -3,9 +3,9 @@ use native.Mathlib.Omega.{arith}
 use mathlib.Core.Path.{refl, ap}
 use Rattle.rules.specs.Requests.{verdict}
 use Rattle.word.specs.declared.Power.{Power}
-use Rattle.survey.specs.Checking.{survey-sound}
+use Rattle.survey.specs.Checking.{survey-sound, survey-tiles}
 use Rattle.steps.specs.Acts.{acts-does, unsound-acts}
-use Rattle.mend.specs.Recovering.{sound-tiled, sound-targets, settled-tiled, released-tiled, cut-first, cut-second, cut-never}
+use Rattle.mend.specs.Recovering.{sound-targets, settled-tiled, released-tiled, cut-first, cut-second, cut-never}
 use borrow.Author.Needs.{needs}
 use Rattle.mend.proofs.recover.Statement.{statement}
 use Rattle.mend.proofs.recover.Tie as tie
@@ -24,7 +24,7 @@ new-requires : tie.Need-new-requires
 new-requires c κs = search needs
 
 finish-pending-requires : tie.Need-finish-pending-requires
-finish-pending-requires c κs = (sound-tiled (c .before .before .before .before .before .before .before .args .img .now) (survey-sound _ _ _ (c .before .before .before .before .sound .ensures) (c .before .before .if1 .left)), (sound-targets (c .before .before .before .before .before .before .before .args .img .now) (survey-sound _ _ _ (c .before .before .before .before .sound .ensures) (c .before .before .if1 .left)), rw (c .before .new .ensures) (omega (arith, c .before .before .before .before .before .before .before .fits .fuse))))
+finish-pending-requires c κs = (survey-tiles _ _ _ (c .before .before .before .before .sound .ensures) (c .before .before .if1 .left), (sound-targets (c .before .before .before .before .before .before .before .args .img .now) (survey-sound _ _ _ (c .before .before .before .before .sound .ensures) (c .before .before .if1 .left)), rw (c .before .new .ensures) (omega (arith, c .before .before .before .before .before .before .before .fits .fuse))))
 
 finish-requires : tie.Need-finish-requires
 finish-requires c κs = search needs

@@ -1,7 +1,7 @@
 -- `need_of`: rounded up by quotient and remainder, so that no sum passes need. Assumes nothing.
 use native.Mathlib.Omega.{arith}
 use Rattle.rules.specs.Stores.{needOf}
-use Rattle.place.specs.Places.{need-is}
+use Rattle.laws.specs.Needs.{need-is}
 use borrow.Author.Needs.{needs}
 use Rattle.place.proofs.need_of.Statement.{statement}
 use Rattle.place.proofs.need_of.Tie as tie

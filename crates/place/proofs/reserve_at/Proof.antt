@@ -2,8 +2,8 @@
 use native.Mathlib.Omega.{arith}
 use mathlib.Core.Path.{_≡_}
 use Rattle.rules.specs.Words.{mem}
-use Rattle.laws.specs.Landing.{need-even}
-use Rattle.place.specs.Places.{need-least, split-acts, whole-acts}
+use Rattle.laws.specs.Needs.{need-least, need-even}
+use Rattle.place.specs.Places.{split-acts, whole-acts}
 use borrow.Author.Needs.{needs}
 use Rattle.place.proofs.reserve_at.Statement.{statement}
 use Rattle.place.proofs.reserve_at.Tie as tie

@@ -6,9 +6,9 @@ use Rattle.rules.specs.Words.{mem}
 use Rattle.rules.specs.Clumps.{head}
 use Rattle.rules.specs.Reading.{clumpsOf}
 use Rattle.word.specs.Runs.{ran-then}
-use Rattle.walk.specs.Scans.{list-valid}
+use Rattle.walk.specs.Scans.{list-valid, list-in}
 use Rattle.steps.specs.Acts.{acts-same, acts-refused, acts-ran}
-use Rattle.turn.specs.Turns.{list-in, activate-state, activate-bad, activate-done}
+use Rattle.turn.specs.Turns.{activate-state, activate-bad, activate-done}
 use borrow.Author.Needs.{needs}
 use Rattle.turn.proofs.activate_at.Statement.{statement}
 use Rattle.turn.proofs.activate_at.Tie as tie

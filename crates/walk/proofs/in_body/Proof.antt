@@ -6,8 +6,8 @@ use Rattle.rules.specs.Words.{mem}
 use Rattle.rules.specs.Reading.{clumpsOf, Tiled}
 use Rattle.laws.specs.Walking.{Walking, walking-start, walking-end, walking-hit, walking-move, walking-inside}
 use Rattle.rules.specs.Lists.{any}
+use Rattle.rules.specs.Sound.{holdsWord}
 use Rattle.laws.specs.Searches.{any-hit, any-pass}
-use Rattle.walk.specs.Forms.{holdsWord}
 use Rattle.walk.proofs.in_body.Statement.{statement}
 use Rattle.walk.proofs.in_body.Tie as tie
 

@@ -1,5 +1,5 @@
 -- `room`: need is past nbytes that are less than a header; else the size is held to what is left in whole units. Assumes nothing.
-use Rattle.walk.specs.Scans.{need-small, need-room}
+use Rattle.laws.specs.Needs.{need-small, need-room}
 use borrow.Author.Needs.{needs}
 use Rattle.walk.proofs.room.Statement.{statement}
 use Rattle.walk.proofs.room.Tie as tie

@@ -1,5 +1,7 @@
 -- `Clump::list`: six words. Assumes nothing.
 use borrow.Author.Needs.{needs}
+use Rattle.rules.specs.Words.{mem}
+use Rattle.page.specs.Slots.{list-is}
 use Rattle.page.proofs.clump.Clump.list.Statement.{statement}
 use Rattle.page.proofs.clump.Clump.list.Tie as tie
 
@@ -40,7 +42,7 @@ get-requires-6 : tie.Need-get-requires-6
 get-requires-6 c κs = search needs
 
 returns : tie.Need-returns
-returns c = cc
+returns c = list-is (mem (c .before .before .before .before .before .before .before .args .img .now)) (c .before .before .before .before .before .before .before .args .at) _ _ _ _ _ _ (c .before .before .before .before .before .get .ensures) (c .before .before .before .before .get2 .ensures) (c .before .before .before .get3 .ensures) (c .before .before .get4 .ensures) (c .before .get5 .ensures) (c .get6 .ensures)
 
 pub list-spec : {M : Type 1} → statement M
 list-spec =

@@ -1,4 +1,4 @@
--- `free_from`: a walk that asks each clump for its state and its start. Assumes nothing.
+-- `free_beside`: a walk that asks each clump for its state and its start or end. Assumes nothing.
 use Prim.Native.Nat.{_-_}
 use lib.ListN.{length}
 use native.Mathlib.Omega.{arith}
@@ -11,18 +11,18 @@ use Rattle.rules.specs.Lists.{seek}
 use Rattle.rules.specs.Clumps.{head}
 use Rattle.laws.specs.Searches.{seek-hit, seek-pass}
 use Rattle.walk.specs.Forms.{offsetOf}
-use Rattle.turn.specs.Turns.{startsAt}
-use Rattle.turn.proofs.free_from.Statement.{statement}
-use Rattle.turn.proofs.free_from.Tie as tie
+use Rattle.turn.specs.Turns.{beside}
+use Rattle.turn.proofs.free_beside.Statement.{statement}
+use Rattle.turn.proofs.free_beside.Tie as tie
 
 abbrev Inv-loop : tie.InvT-loop
-Inv-loop img at h₀ h = Tiled img × Walking (λ hs. offsetOf (length img) (seek (startsAt at) hs)) (length img) (mem img) h (offsetOf (length img) (seek (startsAt at) (clumpsOf img)))
+Inv-loop img at below h₀ h = Tiled img × Walking (λ hs. offsetOf (length img) (seek (beside below at) hs)) (length img) (mem img) h (offsetOf (length img) (seek (beside below at) (clumpsOf img)))
 
 abbrev μ-loop : tie.MeasureT-loop
-μ-loop img at h₀ h = length img - h
+μ-loop img at below h₀ h = length img - h
 
 loop-holds : tie.Need-loop-holds Inv-loop μ-loop
-loop-holds c = (c .before .pre, walking-start (λ hs. offsetOf _ (seek (startsAt _) hs)) _ _)
+loop-holds c = (c .before .pre, walking-start (λ hs. offsetOf _ (seek (beside (c .before .args .below) (c .before .args .at)) hs)) _ _)
 
 returns : tie.Need-returns Inv-loop μ-loop
 unfolding seek
@@ -31,11 +31,11 @@ returns c = walking-end (c .before .loop .inv .1) (c .if1 .taken)
 read-requires : tie.Need-read-requires Inv-loop μ-loop
 read-requires c κs = let i = walking-inside (c .before .loop .inv .1) (c .if1 .left) (c .before .loop .inv .0) in omega arith
 
-is-free-at-requires : tie.Need-is-free-at-requires Inv-loop μ-loop
-is-free-at-requires c κs = tt
+is-beside-requires : tie.Need-is-beside-requires Inv-loop μ-loop
+is-beside-requires c κs = let i = walking-inside (c .before .before .loop .inv .1) (c .before .if1 .left) (c .before .before .loop .inv .0) in omega (arith, c .read .ensures .0)
 
 returns-2 : tie.Need-returns-2 Inv-loop μ-loop
-returns-2 c = let k = head (mem (c .before .before .before .before .before .before .args .img .now)) (c .before .before .before .before .loop .h) in walking-hit (c .before .before .before .before .loop .inv .1) (c .before .before .before .if1 .left) _ (λ t. ap (offsetOf _) (seek-hit (startsAt (c .before .before .before .before .before .before .args .at)) k t (cc)))
+returns-2 c = let k = head (mem (c .before .before .before .before .before .before .args .img .now)) (c .before .before .before .before .loop .h) in walking-hit (c .before .before .before .before .loop .inv .1) (c .before .before .before .if1 .left) _ (λ t. ap (offsetOf _) (seek-hit (beside (c .before .before .before .before .before .before .args .below) (c .before .before .before .before .before .before .args .at)) k t (cc)))
 
 add-h : tie.Need-add-h Inv-loop μ-loop
 add-h c = let i = walking-inside (c .before .before .before .before .loop .inv .1) (c .before .before .before .if1 .left) (c .before .before .before .before .loop .inv .0) in omega (arith, c .before .before .read .ensures .0)
@@ -46,12 +46,12 @@ loop-less c = let i = walking-inside (c .before .before .before .before .loop .i
 loop-again : tie.Need-loop-again Inv-loop μ-loop
 loop-again c = let i = walking-inside (c .before .before .before .before .loop .inv .1) (c .before .before .before .if1 .left) (c .before .before .before .before .loop .inv .0) in
     let k = head (mem (c .before .before .before .before .before .before .args .img .now)) (c .before .before .before .before .loop .h) in
-    let s : startsAt (c .before .before .before .before .before .before .args .at) k ≡ false = cc in
+    let s : beside (c .before .before .before .before .before .before .args .below) (c .before .before .before .before .before .before .args .at) k ≡ false = cc in
     rw (c .before .before .read .ensures .0)
-    (c .before .before .before .before .loop .inv .0, walking-move (c .before .before .before .before .loop .inv .1) (c .before .before .before .if1 .left) (omega arith) (i .whole) _ (λ t. ap (offsetOf _) (seek-pass (startsAt (c .before .before .before .before .before .before .args .at)) k t s)))
+    (c .before .before .before .before .loop .inv .0, walking-move (c .before .before .before .before .loop .inv .1) (c .before .before .before .if1 .left) (omega arith) (i .whole) _ (λ t. ap (offsetOf _) (seek-pass (beside (c .before .before .before .before .before .before .args .below) (c .before .before .before .before .before .before .args .at)) k t s)))
 
-pub free-from-spec : {M : Type 1} → statement M
-free-from-spec =
+pub free-beside-spec : {M : Type 1} → statement M
+free-beside-spec =
     tie.close
     (tie.spec
     Inv-loop
@@ -59,7 +59,7 @@ free-from-spec =
     loop-holds
     returns
     read-requires
-    is-free-at-requires
+    is-beside-requires
     returns-2
     add-h
     loop-less

@@ -14,7 +14,8 @@ use Rattle.rules.specs.Pages.{clumpsAt, staticAt, staticEnd}
 use Rattle.rules.specs.Clumps.{Head, bodyOf, endOf, isFree, isLive, Tiles}
 use Rattle.rules.specs.Sound.{isEven, lies, holdsWord, isValid}
 use Rattle.rules.specs.Reading.{within, inPart}
-use Rattle.laws.specs.Searches.{differ, and-both}
+use Rattle.laws.specs.Searches.{differ, and-both, any-each}
+use Rattle.laws.specs.Tilings.{tiles-in}
 
 -- the byte at i lies outside the header of h, and outside all of h if h is FREE
 pub record Off (i : ℕ) (h : Head) : Type 0 where
@@ -83,3 +84,15 @@ valid-off n t hs s e = go (lies staticAt staticEnd t) refl (and-both (isEven t) 
     go : (c : Bool) → lies staticAt staticEnd t ≡ c → (c || any (holdsWord t) hs) ≡ true → Each (Off t) hs
     go true q f = let x = leb-true (t + wordBytes) staticEnd (and-both (leb staticAt t) _ q .1) in off-below clumpsAt n t hs s (omega arith)
     go false q f = off-body t (holdsWord t) word-in clumpsAt n hs s f
+
+-- a valid target lies in the static area or from the clumps on
+pub valid-area : (n t : ℕ) (hs : List Head) → Tiles clumpsAt hs n → isValid hs t ≡ true → ((staticAt ≤ t) × (t + wordBytes ≤ staticEnd)) ⊎ (clumpsAt ≤ t)
+unfolding isValid
+valid-area n t hs s e = go (lies staticAt staticEnd t) refl (and-both (isEven t) _ e .1)
+  where
+    go : (b : Bool) → lies staticAt staticEnd t ≡ b → (b || any (holdsWord t) hs) ≡ true → ((staticAt ≤ t) × (t + wordBytes ≤ staticEnd)) ⊎ (clumpsAt ≤ t)
+    go true q f = let x = and-both (leb staticAt t) _ q in inl (leb-true staticAt t (x .0), leb-true (t + wordBytes) staticEnd (x .1))
+    go false q f =
+        let y = any-each (λ h. (clumpsAt ≤ h .at) × (h .at < n) × (endOf h ≤ n)) (holdsWord t) hs f (tiles-in clumpsAt n hs s) in
+        let l = leb-true (bodyOf (y .0)) t (and-both (leb (bodyOf (y .0)) t) _ (and-both (isLive (y .0)) _ (y .1) .1) .0) in
+        inr (omega (arith, y .2 .0))

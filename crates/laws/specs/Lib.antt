@@ -18,5 +18,7 @@ pub mod Lying
 pub mod Spans
 pub mod Taking
 pub mod Landing
+pub mod Founding
 pub mod OneWord
 pub mod Named
+pub mod Spare

@@ -1,26 +1,26 @@
 -- Each store of each request is one aligned word of the image, and stores a word. Create's list is spelled out; of the other requests
 -- the laws of landing tell where the stores go. Assumes nothing.
-use Prim.Native.Nat.{ℕ, zero, suc, _+_, _-_, _*_, _%_, _/_, _<_, _≤_}
-use mathlib.Core.Path.{_≡_, refl}
+use Prim.Native.Nat.{ℕ, _<_}
+use mathlib.Core.Path.{_≡_}
 use mathlib.Core.Bool.{true}
-use mathlib.Core.List.{[], _∷_, _++_}
+use mathlib.Core.Logic.{⊎-elim}
 use native.Mathlib.Omega.{arith}
 use lib.ListN.{length}
 use Rattle.rules.specs.declared.Request.{Request}
 use Rattle.rules.specs.Lists.{Each}
-use Rattle.rules.specs.Words.{Mem, le, Aligned, mem, store, zeros, wordBytes, wordValues}
-use Rattle.rules.specs.Pages.{clumpsAt, staticAt, pageBytes, headerAt, totalAt, signatureHighAt, paddingAt, paddingWords, signature, signatureLow, signatureHigh}
-use Rattle.rules.specs.Clumps.{Head, headerBytes, usedSlots, valueAt, entry, entries, walk}
+use Rattle.rules.specs.Words.{Mem, Aligned, mem, wordValues}
+use Rattle.rules.specs.Clumps.{Head, usedSlots, valueAt, entry, entries, walk}
 use Rattle.rules.specs.Sound.{isValid, allValid}
 use Rattle.rules.specs.Answers.{storesOf}
 use Rattle.rules.specs.Stores.{createStores}
 use Rattle.rules.specs.Requests.{Numbers, verdict}
 use Rattle.rules.specs.Demands.{OneWord}
 use Rattle.word.specs.Memory.{mem-bound}
-use Rattle.laws.specs.Searches.{all-each, each-append, each-map, map-each}
+use Rattle.laws.specs.Searches.{all-each, each-map, map-each}
 use Rattle.laws.specs.Pools.{Sound, RightLength, right-length, pool-tiles}
 use Rattle.laws.specs.Lying.{Lies, all-lie, valid-in}
 use Rattle.laws.specs.Taking.{Takes}
+use Rattle.laws.specs.Founding.{create-each}
 use Rattle.laws.specs.Landing.{lands}
 
 -- a clump that lies in the image takes such stores
@@ -43,36 +43,8 @@ entries-aligned n m b s h v =
     (all-each (λ o. isValid (walk n m) (m o)) (usedSlots m (h .at)) v))
 
 -- create
-zeros-aligned : (n i k : ℕ) → i % wordBytes ≡ 0 → i + wordBytes * k ≤ n → Each (Aligned n) (zeros i k)
-unfolding zeros
-zeros-aligned n i zero e l = tt
-zeros-aligned n i (suc k) e l = (record { even = e; inside = omega arith; small = omega arith }, zeros-aligned n (i + wordBytes) k (omega arith) (omega arith))
-
-low-small : signatureLow < wordValues
-unfolding signatureLow le signature
-low-small = omega arith
-
-high-small : signatureHigh < wordValues
-unfolding signatureHigh le signature
-high-small = omega arith
-
 pub create-aligned : (n : ℕ) → RightLength n → Each (Aligned n) (createStores n)
-unfolding createStores
-create-aligned n r =
-    let l = r .least in
-    let u = r .most in
-    let clump : Each (Aligned n) (store clumpsAt (n - clumpsAt) ∷ (zeros (clumpsAt + wordBytes) (headerBytes / wordBytes - 1) ++ (store headerAt signatureLow ∷ []))) = (
-      record { even = refl; inside = omega arith; small = omega arith },
-      each-append (Aligned n) (zeros (clumpsAt + wordBytes) (headerBytes / wordBytes - 1)) (store headerAt signatureLow ∷ [])
-          (zeros-aligned n (clumpsAt + wordBytes) (headerBytes / wordBytes - 1) refl (omega arith)) (record { even = refl; inside = omega arith; small = low-small }, tt),
-    ) in
-    let page : Each (Aligned n) (store signatureHighAt signatureHigh ∷ store totalAt n ∷ (zeros paddingAt paddingWords ++ (store clumpsAt (n - clumpsAt) ∷ (zeros (clumpsAt + wordBytes) (headerBytes / wordBytes - 1) ++ (store headerAt signatureLow ∷ []))))) = (
-      record { even = refl; inside = omega arith; small = high-small },
-      (record { even = refl; inside = omega arith; small = omega arith }, each-append (Aligned n) (zeros paddingAt paddingWords) _ (zeros-aligned n paddingAt paddingWords refl (omega arith)) clump),
-    ) in (
-      record { even = refl; inside = omega arith; small = omega arith },
-      each-append (Aligned n) (zeros staticAt (pageBytes / wordBytes)) _ (zeros-aligned n staticAt (pageBytes / wordBytes) refl (omega arith)) page,
-    )
+create-aligned n r = let l = r .least in create-each (Aligned n) n r (λ o w p e u. record { even = e; inside = ⊎-elim (λ x. omega (arith, x .1)) (λ x. omega (arith, x .1)) p; small = u })
 
 aligned : (n : ℕ) (m : Mem) (q : Request) → ((o : ℕ) → m o < wordValues) → Numbers q → Each (Aligned n) (storesOf (verdict n m q))
 aligned n m q b k =

@@ -1,38 +1,23 @@
 -- The assignments of a list whose targets are valid reach no header and not the header page, so that the clumps and their lists are as
 -- they were. By the law that what lies in the static area or in a live body lies in no header. Assumes nothing.
-use Prim.Native.Nat.{ℕ, _+_, _<_, _≤_}
+use Prim.Native.Nat.{ℕ}
 use mathlib.Core.Path.{_≡_, refl}
-use mathlib.Core.Bool.{Bool, true, false, _||_}
-use mathlib.Core.Logic.{_⊎_, inl, inr, ⊎-elim}
+use mathlib.Core.Bool.{true}
+use mathlib.Core.Logic.{⊎-elim}
 use mathlib.Core.List.{List, [], _∷_, map}
 use native.Mathlib.Omega.{arith}
-use lib.Dec.{leb}
-use borrow.Author.Tests.{leb-true}
-use Rattle.rules.specs.Lists.{any, all, Each}
-use Rattle.rules.specs.Words.{Mem, Store, after, wordBytes}
-use Rattle.rules.specs.Pages.{clumpsAt, staticAt, staticEnd, headerAt}
-use Rattle.rules.specs.Clumps.{Head, bodyOf, endOf, isLive, usedSlots, entry, entries, Tiles}
-use Rattle.rules.specs.Sound.{isEven, lies, holdsWord, isValid, allValid}
-use Rattle.laws.specs.Searches.{and-both, any-each, each-map, all-each}
+use Rattle.rules.specs.Lists.{all, Each}
+use Rattle.rules.specs.Words.{Mem, Store, after}
+use Rattle.rules.specs.Pages.{clumpsAt}
+use Rattle.rules.specs.Clumps.{Head, usedSlots, entry, entries, Tiles}
+use Rattle.rules.specs.Sound.{isValid, allValid}
+use Rattle.laws.specs.Searches.{each-map, all-each}
 use Rattle.laws.specs.Headers.{Agree, AgreePage}
-use Rattle.laws.specs.Bodies.{Off, valid-off}
-use Rattle.laws.specs.Tilings.{tiles-in}
+use Rattle.laws.specs.Bodies.{Off, valid-off, valid-area}
 use Rattle.loss.specs.Fates.{Beyond}
 use Rattle.loss.specs.Redo.{after-spared}
 
--- a valid target lies below the header page or above it
-valid-apart : (n t : ℕ) (hs : List Head) → Tiles clumpsAt hs n → isValid hs t ≡ true → (t < headerAt) ⊎ (clumpsAt ≤ t)
-unfolding isValid
-valid-apart n t hs s e = go (lies staticAt staticEnd t) refl (and-both (isEven t) _ e .1)
-  where
-    go : (b : Bool) → lies staticAt staticEnd t ≡ b → (b || any (holdsWord t) hs) ≡ true → (t < headerAt) ⊎ (clumpsAt ≤ t)
-    go true q f = inl (let x = leb-true (t + wordBytes) staticEnd (and-both (leb staticAt t) _ q .1) in omega arith)
-    go false q f =
-        let y = any-each (λ h. (clumpsAt ≤ h .at) × (h .at < n) × (endOf h ≤ n)) (holdsWord t) hs f (tiles-in clumpsAt n hs s) in
-        let l = leb-true (bodyOf (y .0)) t (and-both (leb (bodyOf (y .0)) t) _ (and-both (isLive (y .0)) _ (y .1) .1) .0) in
-        inr (omega (arith, y .2 .0))
-
--- and is no word of a header
+-- a valid target is no word of a header
 pub valid-beyond : (n t : ℕ) (hs : List Head) → Tiles clumpsAt hs n → isValid hs t ≡ true → Each (Beyond t) hs
 valid-beyond n t hs s e = each-map (Off t) (Beyond t) hs (λ h o. o .header) (valid-off n t hs s e)
 
@@ -73,4 +58,4 @@ module _ (n : ℕ) (m : Mem) (hs : List Head) (t : Tiles clumpsAt hs n) (st : Li
   assigned-page o l u =
       after-spared m st o
       (each-map (λ s. isValid hs (s .to) ≡ true) (λ s. o ≡ s .to → ⊥) st
-      (λ s e z. ⊎-elim (λ x. absurd (omega arith)) (λ x. absurd (omega arith)) (valid-apart n (s .to) hs t e)) v)
+      (λ s e z. ⊎-elim (λ x. absurd (omega (arith, x .1))) (λ x. absurd (omega arith)) (valid-area n (s .to) hs t e)) v)

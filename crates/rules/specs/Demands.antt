@@ -19,7 +19,7 @@ use Rattle.rules.specs.Sound.{judge, unsettled}
 use Rattle.rules.specs.Answers.{done, notSound, noRoom, cutShort}
 use Rattle.rules.specs.Stores.{needOf, fits}
 use Rattle.rules.specs.Requests.{Numbers, Does, cut, finished, finder, storesFor, answerOn, totalsOn}
-use Rattle.rules.specs.Reading.{clumpsOf, within, inPart, hidden}
+use Rattle.rules.specs.Reading.{clumpsOf, within, inPart, hidden, inSparePage}
 use Rattle.rules.specs.Traces.{isCreate}
 
 -- "Prove that any two outcomes it allows are equal"
@@ -119,6 +119,11 @@ OnlyNamed =
     → inPart isLive hs i ≡ true
     → any (λ s. within (s .to) (s .to + wordBytes) i) (carriedOut (mem img) hs q) ≡ false
     → getD (cut img q fuse) i 0 ≡ getD img i 0
+
+-- | 0 and 8192 | 4,096 bytes each, never read or written |: no request, finished or cut, changes a byte there. (That none reads there is
+-- a part of Independent.)
+abbrev pub NeverWritten : Type 0
+NeverWritten = (img : Image) (q : Request) (fuse i : ℕ) → inSparePage i ≡ true → getD (cut img q fuse) i 0 ≡ getD img i 0
 
 -- "they add up to length minus 16384"
 abbrev pub TotalsAdd : Type 0

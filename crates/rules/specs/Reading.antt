@@ -51,3 +51,7 @@ mayWrite = inPart isWaiting
 -- "a body byte, .. the static area or .. pages 0 and 8192": these three pages lie below the header
 unfoldable pub hidden : List Head → ℕ → Bool
 hidden hs i = ltb i headerAt || any (λ h. within (bodyOf h) (endOf h) i) hs
+
+-- | 0 and 8192 | 4,096 bytes each, never read or written |: the page below the static area, and the one behind it
+unfoldable pub inSparePage : ℕ → Bool
+inSparePage i = within 0 staticAt i || within staticEnd headerAt i

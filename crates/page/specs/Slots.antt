@@ -1,5 +1,5 @@
--- Laws of a loop over the three entries of an on-list: entry i of the list that was read is the i-th slot, and a question about the
--- entries is asked of one after the other. Assumes nothing.
+-- Laws of the three entries of an on-list: the six words that are read make the list, entry i of it stands at the i-th slot, and a
+-- question about the entries is asked of one after the other. Assumes nothing.
 use Prim.Native.Nat.{ℕ, zero, suc, _+_, _<_, _≤_}
 use mathlib.Core.Path.{_≡_, refl, sym, ap, _∙_}
 use mathlib.Core.List.{List, [], _∷_}

@@ -22,7 +22,8 @@ staticEnd = staticAt + pageBytes
 abbrev pub headerAt : ℕ
 headerAt = 12288
 
-unfoldable codes : String → List ℕ
+-- the bytes of a text
+unfoldable pub codes : String → List ℕ
 codes String.[] = []
 codes (String._∷_ c s) = code c ∷ codes s
 

@@ -1,0 +1,58 @@
+-- The whole input: what was read cannot be said, but that the image is the one after some input. Assumes nothing.
+use Prim.Native.Nat.{ℕ, _≤_}
+use mathlib.Core.Path.{_≡_, refl, sym, _∙_}
+use mathlib.Core.List.{List, [], _++_}
+use native.Mathlib.Omega.{arith}
+use Rattle.rules.specs.Words.{Image}
+use Rattle.rules.specs.Cases.{longest}
+use Rattle.line.specs.declared.Line.the-variants.{Bad}
+use Rattle.rules.specs.Pages.{codes}
+use Rattle.line.specs.Lines.{fields, numbers, same, named, commands, command, meaning, lineOf}
+use Rattle.line.specs.Gathering.{kept, holds-start}
+use Rattle.bench.specs.declared.feed.Held.{Held}
+use Rattle.bench.specs.Steps.{Session, imageAfter, started, lineEnded, bytesAfter}
+use Rattle.bench.specs.Feeding.{Stands, Follows, line-held, bytes-append}
+
+-- the session after some input
+pub record Reached (img img′ : Image) (buf : List ℕ) (h : Held) : Type 0 where
+  pub input : List ℕ
+  pub stands : Stands img′ buf h (bytesAfter (started img) input)
+
+-- the image after all of some input, with its last line
+pub record Ended (img img′ : Image) : Type 0 where
+  pub input : List ℕ
+  pub image : img′ ≡ lineEnded (bytesAfter (started img) input) .image
+
+-- the start, a chunk more, and the end
+pub reached-start : (img buf : List ℕ) → Reached img img buf (record { count = 0; fuse = longest })
+unfolding bytesAfter
+reached-start img buf = record { input = []; stands = record { image = refl; text = holds-start kept buf; fuse = refl } }
+
+pub reached-next :
+    {img img′ img″ buf buf′ : List ℕ} {h h′ : Held} (chunk : List ℕ)
+    → Reached img img′ buf h
+    → Follows img′ buf h chunk img″ buf′ h′
+    → Reached img img″ buf′ h′
+reached-next {img} chunk r f =
+    record {
+      input = r .input ++ chunk;
+      stands = rw (bytes-append (started img) (r .input) chunk) (f .stands (bytesAfter (started img) (r .input)) (r .stands));
+    }
+
+pub ended :
+    {img img′ img″ buf : List ℕ} {h : Held}
+    → Reached img img′ buf h
+    → ((s : Session) → Stands img′ buf h s → img″ ≡ lineEnded s .image)
+    → Ended img img″
+ended {img} r f = record { input = r .input; image = f (bytesAfter (started img) (r .input)) (r .stands) }
+
+-- where no byte is held no line is left: an empty one would change no byte
+empty-line : lineOf [] ≡ Bad
+unfolding codes fields numbers same named commands command meaning lineOf
+empty-line = refl
+
+pub none-held : {img buf : List ℕ} {h : Held} {s : Session} → h .count ≤ 0 → Stands img buf h s → img ≡ lineEnded s .image
+unfolding imageAfter
+none-held {h = h} l t =
+    let e : h .count ≡ 0 = omega arith in
+    sym (rw (e, empty-line)) ∙ line-held t

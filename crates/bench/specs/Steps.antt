@@ -1,0 +1,49 @@
+-- What a line and a byte of the input make of the image and of the fuse (01, "The program"). Assumes nothing.
+use Prim.Native.Nat.{ℕ}
+use mathlib.Core.Bool.{cond}
+use mathlib.Core.List.{List, [], _∷_, _++_}
+use lib.Dec.{eqb}
+use Rattle.rules.specs.Words.{Image}
+use Rattle.rules.specs.Cases.{longest}
+use Rattle.rules.specs.Requests.{cut}
+use Rattle.line.specs.declared.Line.{Line}
+use Rattle.line.specs.declared.Line.the-variants.{Ask, Fuse, Walk, Bad}
+use Rattle.line.specs.Lines.{lineOf, fuseAfter}
+use Rattle.line.specs.Texts.{newline}
+
+-- the image after a line: a request stores as far as its fuse lasts, and no other line stores
+unfoldable pub imageAfter : Image → Line → ℕ → Image
+imageAfter img (Ask q) fuse = cut img q fuse
+imageAfter img (Fuse k) fuse = img
+imageAfter img Walk fuse = img
+imageAfter img Bad fuse = img
+
+-- where the program stands in its input: the image, the bytes since the last newline, the fuse of the next request
+pub record Session : Type 0 where
+  pub image : Image
+  pub text : List ℕ
+  pub fuse : ℕ
+
+-- at the start: "the fuse is the largest 64-bit number"
+abbrev pub started : Image → Session
+started img = record { image = img; text = []; fuse = longest }
+
+-- the bytes since the last newline are a line
+abbrev pub lineEnded : Session → Session
+lineEnded s =
+    record {
+      image = imageAfter (s .image) (lineOf (s .text)) (s .fuse);
+      text = [];
+      fuse = fuseAfter (s .fuse) (lineOf (s .text));
+    }
+
+abbrev pub lengthened : Session → ℕ → Session
+lengthened s b = record { image = s .image; text = s .text ++ (b ∷ []); fuse = s .fuse }
+
+-- a newline ends the line, and any other byte belongs to it
+unfoldable pub byteAfter : Session → ℕ → Session
+byteAfter s b = cond (eqb b newline) (lineEnded s) (lengthened s b)
+
+unfoldable pub bytesAfter : Session → List ℕ → Session
+bytesAfter s [] = s
+bytesAfter s (b ∷ bs) = bytesAfter (byteAfter s b) bs

@@ -1,0 +1,127 @@
+// A case run: the image with its words, the request asked of it, a check of what it leaves, and the checksum. `run` takes any line and any
+// numbers; the parts below it ask for the bounds that `case_of` has tested.
+ghost use mathlib.Core.Path.{_≡_};
+ghost use mathlib.Core.Bool.{true};
+ghost use Prim.Native.Nat.{_≤_};
+ghost use lib.ListN.{length};
+ghost use Rattle.rules.specs.Words.{carry};
+ghost use Rattle.vectors.specs.Cases.{mostLength, mostWords, caseOf};
+ghost use Rattle.vectors.specs.Outcomes.{lies, words, allLie, zeroBytes, outcomeOf, ranOf, ranBy};
+ghost use Rattle.vectors.specs.declared.case.Case.the-variants.{Asked};
+use crate::case::Case;
+use crate::line::Line;
+use crate::line::Reading;
+use rules::Answer;
+use rules::Request;
+use rules::Totals;
+use word::Power;
+
+// What a request answers, and what it leaves: the totals and the checksum of the image afterwards.
+pub struct Outcome {
+    pub answer: Answer,
+    pub totals: Totals,
+    pub sum: u64,
+}
+
+// What a case leads to.
+pub enum Ran {
+    Done(Outcome),
+    Malformed,
+}
+
+// Whether a word lies at that offset of an image of n bytes.
+fn word_lies(n: usize, at: u64) -> bool
+    ensures { λ r. ⌜ r ≡ lies n at ⌝ }
+{
+    if at % 8 != 0 {
+        return false;
+    }
+    if n < 8 {
+        return false;
+    }
+    at <= (n - 8) as u64
+}
+
+// The words of a case put into its image, each with power for one store; false where one cannot lie there.
+fn fill(img: &mut [u8], numbers: &[u64; 256], count: usize) -> bool
+    requires { ⌜ count ≤ mostWords ⌝ }
+    ensures { λ r. ⌜ r ≡ allLie (length (now (img .entry))) (now (numbers .entry)) count ⌝ }
+    ensures { λ r. ⌜ (r ≡ true → now (img .exit) ≡ carry (now (img .entry)) (words (now (numbers .entry)) count)) ⌝ }
+{
+    let mut i: usize = 0;
+    while i < count {
+        let at = numbers[2 + 2 * i];
+        let w = numbers[3 + 2 * i];
+        if !word_lies(img.len(), at) {
+            return false;
+        }
+        word::store(img, Power::new(1), at as usize, w);
+        i += 1;
+    }
+    true
+}
+
+// The request asked of the image, and what it leaves.
+fn tried(img: &mut [u8], request: Request, fuse: u64) -> Outcome
+    ensures { λ r. ⌜ r ≡ outcomeOf (now (img .entry)) request fuse ⌝ }
+{
+    let answer = pool::ask(img, request, fuse);
+    let checked = pool::check(img);
+    let totals = checked.totals;
+    let sum = crate::sum::checksum(img);
+    Outcome {
+        answer,
+        totals,
+        sum,
+    }
+}
+
+// Room for every image, of zeros.
+fn blank() -> [u8; 65536]
+    ensures { λ r. ⌜ r ≡ zeroBytes mostLength ⌝ }
+{
+    [0; 65536]
+}
+
+// A case run in an image of its own.
+fn run_case(numbers: &[u64; 256], n: usize, k: usize, request: Request, fuse: u64) -> Ran
+    requires { ⌜ n ≤ mostLength ⌝ }
+    requires { ⌜ k ≤ mostWords ⌝ }
+    ensures { λ r. ⌜ r ≡ ranOf (now (numbers .entry)) (Asked n k request fuse) ⌝ }
+{
+    let mut space = blank();
+    let img = &mut space[..n];
+    if !fill(img, numbers, k) {
+        return Ran::Malformed;
+    }
+    Ran::Done(tried(img, request, fuse))
+}
+
+// The case of the first `count` numbers.
+fn run_numbers(numbers: &[u64; 256], count: usize) -> Ran
+    ensures { λ r. ⌜ r ≡ ranOf (now (numbers .entry)) (caseOf (now (numbers .entry)) count) ⌝ }
+{
+    let c = crate::case::case_of(numbers, count);
+    let Case::Asked {
+        length,
+        words,
+        request,
+        fuse,
+    } = c
+    else {
+        return Ran::Malformed;
+    };
+    run_case(numbers, length, words, request, fuse)
+}
+
+// The case of a line that is read to its end.
+pub fn run(l: Line, numbers: &[u64; 256]) -> Ran
+    ensures { λ r. ⌜ r ≡ ranBy l (now (numbers .entry)) ⌝ }
+{
+    let r = l.reading;
+    match r {
+        Reading::Nothing => run_numbers(numbers, l.count),
+        Reading::Number(_) => Ran::Malformed,
+        Reading::Malformed => Ran::Malformed,
+    }
+}

@@ -1,0 +1,148 @@
+"""What the generator builds images with: clumps, pools, dust and fixed dice."""
+
+from collections import namedtuple
+
+import pool
+from pool import FREE, RESERVED, ACTIVE, LARGEST
+
+Case = namedtuple("Case", "image name numbers fuse")
+
+
+def case(image, name, *numbers, fuse=LARGEST):
+    assert len(numbers) == pool.NUMBERS_TAKEN[name], (name, numbers)
+    return Case(bytes(image), name, numbers, fuse)
+
+
+class Dice:
+    """splitmix64: the same numbers from every Python, unlike `random`'s choices."""
+
+    def __init__(self, seed):
+        self.state = seed
+
+    def word(self):
+        self.state = (self.state + 0x9E3779B97F4A7C15) % 2**64
+        mixed = self.state
+        mixed = (mixed ^ (mixed >> 30)) * 0xBF58476D1CE4E5B9 % 2**64
+        mixed = (mixed ^ (mixed >> 27)) * 0x94D049BB133111EB % 2**64
+        return mixed ^ (mixed >> 31)
+
+    def below(self, limit):
+        return self.word() % limit
+
+    def between(self, low, high):
+        return low + self.below(high - low + 1)
+
+    def pick(self, things):
+        return things[self.below(len(things))]
+
+    def one_in(self, chances):
+        return self.below(chances) == 0
+
+
+# A clump is its eight header words; its body follows in the image.
+def clump(nbytes, state, *entries):
+    words = [nbytes, state]
+    for target, value in entries:
+        words += [target, value]
+    return words + [0] * (8 - len(words))
+
+
+def with_words(image, words):
+    """A copy of the image with the words of {offset: value} put in."""
+    changed = bytearray(image)
+    for offset, value in words.items():
+        pool.put_word(changed, offset, value)
+    return changed
+
+
+def pool_header(length):
+    return {12288: int.from_bytes(pool.SIGNATURE[:8], "little"),
+            12296: int.from_bytes(pool.SIGNATURE[8:], "little"),
+            12304: length}
+
+
+def pool_of(*clumps):
+    """A pool whose length is just what the clumps fill."""
+    length = 16384 + sum(words[0] for words in clumps)
+    image = with_words(bytearray(length), pool_header(length))
+    offset = 16384
+    for words in clumps:
+        for index, value in enumerate(words):
+            pool.put_word(image, offset + 8 * index, value)
+        offset += words[0]
+    return image
+
+
+def fresh(length):
+    image = bytearray(length)
+    pool.create(image)
+    return image
+
+
+def after(image, name, *numbers, fuse=LARGEST):
+    """A copy of the image after the request."""
+    changed = bytearray(image)
+    pool.ask(changed, name, numbers, fuse)
+    return changed
+
+
+def stores_of(image, name, numbers):
+    """How many stores the request makes when nothing cuts it."""
+    return pool.ask(bytearray(image), name, numbers).stores
+
+
+def flip_bit(image, offset, bit):
+    changed = bytearray(image)
+    changed[offset] ^= 1 << bit
+    return changed
+
+
+# Words where no answer may look: pages 0 and 8192, the static area, and the
+# first and last word of each body.
+def dusty(image, seed):
+    dice = Dice(seed)
+    words = {0: dice.word(), 4088: dice.word(), 4096: dice.word(), 8184: dice.word(),
+             8192: dice.word(), 12280: dice.word()}
+    for one in pool.walk(image):
+        words[pool.body_of(one)] = dice.word()
+        words[pool.end_of(one) - 8] = dice.word()
+    return with_words(image, words)
+
+
+# Numbers that wrap, cut short or change sign in a careless build.
+EDGE_NUMBERS = (
+    2**64 - 1, 2**64 - 7, 2**64 - 8, 2**64 - 63, 2**64 - 64, 2**64 - 65,
+    2**64 - 128, 2**64 - 16384, 2**63 - 1, 2**63, 2**63 + 64, 2**32 - 1, 2**32,
+    2**32 + 64, 2**31, 1, 0)
+
+# One pool in which every settled state has a neighbour of every other.
+MIXED = pool_of(
+    clump(256, ACTIVE, (4096, 11), (16448, 12)),                  # 16384
+    clump(192, FREE, (3, 3), (5, 5), (7, 7)),                     # 16640
+    clump(192, RESERVED, (4104, 21), (16896, 22), (17088, 23)),   # 16832
+    clump(128, ACTIVE),                                           # 17024
+    clump(128, FREE),                                             # 17152
+    clump(128, RESERVED),                                         # 17280
+    clump(512, FREE))                                             # 17408
+
+# MIXED's clumps by state, as the offsets of their bodies.
+MIXED_ACTIVE, MIXED_FREE, MIXED_RESERVED = 16448, 16704, 16896
+MIXED_BARE_ACTIVE, MIXED_BARE_RESERVED = 17088, 17344
+
+# Every request with numbers that MIXED does not refuse.
+MIXED_REQUESTS = (
+    ("reserve", (100,)), ("onactive", (MIXED_BARE_RESERVED, 4096, 1)),
+    ("onfree", (MIXED_ACTIVE, 4096, 1)), ("withdraw", (MIXED_RESERVED,)),
+    ("activate", (MIXED_RESERVED,)), ("free", (MIXED_ACTIVE,)),
+    ("check", ()), ("recover", ()))
+
+
+# A pool with one clump in the given state, FREE on both sides of it.
+def unfinished(state, *entries):
+    return pool_of(
+        clump(128, ACTIVE),                     # 16384
+        clump(128, FREE),                       # 16512
+        clump(192, state, *entries),            # 16640
+        clump(128, FREE),                       # 16832
+        clump(192, RESERVED, (4096, 9)),        # 16960
+        clump(128, ACTIVE, (4104, 8)))          # 17152

@@ -1,0 +1,956 @@
+"""The cases: families of images and requests, in a fixed order.
+
+Each family is a function that yields cases; the comment above it says what it
+tries.  A case that an earlier family has given already is left out.
+"""
+
+import pool
+from pool import FREE, RESERVED, ACTIVATING, ACTIVE, FREEING, LARGEST
+from build import (
+    Dice, EDGE_NUMBERS, MIXED, MIXED_ACTIVE, MIXED_BARE_ACTIVE,
+    MIXED_BARE_RESERVED, MIXED_FREE, MIXED_REQUESTS, MIXED_RESERVED, after, case,
+    clump, dusty, flip_bit, fresh, pool_header, pool_of, stores_of, unfinished,
+    with_words)
+
+# ---------------------------------------------------------------------------
+# Not a pool
+# ---------------------------------------------------------------------------
+
+LENGTHS = (
+    0, 1, 7, 8, 63, 64, 4096, 8192, 12288, 12296, 12304, 12312, 16383, 16384,
+    16392, 16448, 16504, 16511, 16512, 16513, 16520, 16575, 16576, 16577, 16640,
+    32704, 32767, 32768, 32769, 32776, 65471, 65472, 65473, 65528, 65535, 65536)
+
+
+# An image of any length that has as much of a fresh pool as it can hold.
+def shaped(length):
+    image = bytearray(length)
+    words = dict(pool_header(length))
+    words[16384] = max(length - 16384, 0)
+    return with_words(image, {at: word for at, word in words.items() if at + 8 <= length})
+
+
+# Every length round the least one, the page ends and the largest image here:
+# create, check of an empty and of a shaped image, and one other request each.
+def lengths():
+    others = (("reserve", (1,)), ("onactive", (16448, 4096, 1)),
+              ("onfree", (16448, 4096, 1)), ("withdraw", (16448,)),
+              ("activate", (16448,)), ("free", (16448,)), ("recover", ()))
+    for index, length in enumerate(LENGTHS):
+        yield case(bytearray(length), "create")
+        yield case(bytearray(length), "check")
+        yield case(shaped(length), "check")
+        name, numbers = others[index % len(others)]
+        yield case(shaped(length), name, *numbers)
+        name, numbers = others[(index + 3) % len(others)]
+        yield case(bytearray(length), name, *numbers)
+
+
+# Each request on each kind of image that is no pool: length, both signature
+# words, total size, first and last padding word, and no length at all.
+def no_pool_for_every_request():
+    for name, numbers in MIXED_REQUESTS:
+        yield case(bytearray(0), name, *numbers)
+        yield case(MIXED[:-8], name, *numbers)
+        yield case(with_words(MIXED, {12288: 0}), name, *numbers)
+        yield case(with_words(MIXED, {12296: 0}), name, *numbers)
+        yield case(with_words(MIXED, {12304: len(MIXED) + 64}), name, *numbers)
+        yield case(with_words(MIXED, {12312: 1}), name, *numbers)
+        yield case(with_words(MIXED, {16376: 2**63}), name, *numbers)
+
+
+# One bit wrong in each byte of the signature and of the total size.
+def header_bits():
+    base = fresh(16512)
+    for at in range(12288, 12312):
+        yield case(flip_bit(base, at, at % 8), "check")
+
+
+# The total size off by a little, by a wrap, by its upper half.
+def total_sizes():
+    for length in (16512, 32768):
+        base = fresh(length)
+        for total in (0, 1, length - 64, length - 1, length + 1, length + 64,
+                      length - 16384, length + 2**32, 2**63 + length, 2**64 - length,
+                      LARGEST):
+            yield case(with_words(base, {12304: total}), "check")
+
+
+# Single bits in the zero padding, at both ends and in between; the words that
+# stand just outside it may be anything.
+def padding():
+    base = fresh(16512)
+    offsets = (12312, 12313, 12319, 12320, 12351, 12352, 12416, 12800, 13000, 14336,
+               15872, 16000, 16319, 16320, 16367, 16368, 16376, 16382, 16383)
+    for at in offsets:
+        yield case(flip_bit(base, at, at % 8), "check")
+    yield case(with_words(base, {12280: LARGEST}), "check")
+    yield case(with_words(base, {8192: LARGEST}), "check")
+    yield case(with_words(base, {0: LARGEST, 4088: LARGEST}), "recover")
+
+
+# No pool comes before every fault: header damage together with each of them.
+def no_pool_before_faults():
+    for words in ({16384: 0}, {16392: 5}, {16400: 1}):
+        for damage in ({12288: 1}, {12304: 0}, {12320: 64}):
+            yield case(with_words(MIXED, {**words, **damage}), "check")
+
+
+# ---------------------------------------------------------------------------
+# Not sound
+# ---------------------------------------------------------------------------
+
+# Offsets of MIXED's headers.
+MIXED_HEADERS = (16384, 16640, 16832, 17024, 17152, 17280, 17408)
+
+
+# Fault 1 at the first, a middle and the last clump: sizes not divisible by 64,
+# below 128, past the end, and ones that wrap round to the walk's own places.
+def bad_sizes():
+    for at in (16384, 17024, 17408):
+        rest = len(MIXED) - at
+        sizes = (0, 1, 8, 63, 64, 65, 120, 127, 128, 129, 136, 160, 191, 192, 193,
+                 rest - 128, rest - 64, rest - 1, rest, rest + 1, rest + 64,
+                 2**32, 2**32 + 128, 2**63, 2**63 + 128, 2**64 - at,
+                 (16384 - at) % 2**64, 2**64 - 128, 2**64 - 64, 2**64 - 1)
+        for nbytes in sizes:
+            yield case(with_words(MIXED, {at: nbytes}), "check")
+
+
+# A walk that leaves just 64 bytes: no size is right for that clump.
+def last_64_bytes():
+    for nbytes in (0, 64, 128, 2**64 - 64):
+        image = with_words(fresh(16512 + 64), {16384: 128, 16512: nbytes})
+        yield case(image, "check")
+    for nbytes in (0, 64, 127, 128, 192, 256):
+        yield case(with_words(fresh(16512), {16384: nbytes}), "check")
+
+
+# Fault 2 at three clumps: states up to 4 and above, low byte right or wrong.
+def bad_states():
+    for at in (16384, 17024, 17408):
+        for state in (0, 1, 2, 3, 4, 5, 6, 8, 255, 256, 259, 2**16, 2**32, 2**32 + 3,
+                      2**63, 2**63 + 1, 2**64 - 4, LARGEST):
+            yield case(with_words(MIXED, {at + 8: state}), "check")
+
+
+# Every pattern of used and empty entries in every state.  Values of empty
+# entries stand there too, since they mean nothing.
+def entry_patterns():
+    for state in range(5):
+        for pattern in range(8):
+            entries = [(4096 + 8 * slot if pattern >> slot & 1 else 0, 70 + slot)
+                       for slot in range(3)]
+            image = pool_of(clump(128, state, *entries), clump(128, ACTIVE))
+            yield case(image, "check")
+            if state in (ACTIVATING, FREEING):
+                yield case(image, "recover")
+
+
+# The pool for targets: a FREE body between live ones, and live ones at the end.
+# Headers stand at 16384, 16576, 16704, 16896; the length is 17024.
+def target_pool(first_state, first_list, third_state, third_list):
+    return pool_of(clump(192, first_state, *first_list), clump(128, FREE),
+                   clump(192, third_state, *third_list), clump(128, ACTIVE))
+
+
+# On both sides of each border that a target can lie at.
+TARGETS = (
+    0, 1, 4, 7, 8, 64, 4088, 4095, 4096, 4097, 4100, 4104, 8176, 8183, 8184, 8185,
+    8188, 8191, 8192, 8200, 12280, 12288, 12304, 16376, 16383, 16384, 16385, 16392,
+    16440, 16444, 16447, 16448, 16449, 16452, 16456, 16568, 16572, 16575, 16576,
+    16632, 16640, 16696, 16704, 16760, 16764, 16768, 16888, 16892, 16896, 16952,
+    16960, 17008, 17015, 17016, 17017, 17020, 17023, 17024, 17032, 2**32 + 4096,
+    2**63, 2**63 + 4096, 2**64 - 16, 2**64 - 8, 2**64 - 7, 2**64 - 1)
+
+IN_RANGE = tuple(target for target in TARGETS if target % 8 == 0
+                 and (4096 <= target <= 8184 or 16384 <= target <= 17016))
+
+
+# A list with the target in one of its three entries, good targets before it.
+def list_with(target, slot):
+    return [(4096, 1), (8184, 2)][:slot] + [(target, 3)]
+
+
+# Fault 3 by target, in RESERVED and ACTIVE clumps and in each entry.
+def listed_targets():
+    for index, target in enumerate(TARGETS):
+        entries = list_with(target, index % 3)
+        yield case(target_pool(ACTIVE, [], RESERVED, entries), "check")
+        entries = list_with(target, (index + 1) % 3)
+        yield case(target_pool(ACTIVE, entries, RESERVED, []), "check")
+
+
+# Fault 5 by target, in ACTIVATING and FREEING clumps, with empty entries about.
+def pending_targets():
+    for index, target in enumerate(TARGETS):
+        entries = [(0, 9)] * (index % 3) + [(target, 3)]
+        yield case(target_pool(ACTIVE, [], ACTIVATING, entries), "check")
+        entries = [(0, 9)] * ((index + 1) % 3) + [(target, 3)]
+        yield case(target_pool(FREEING, entries, RESERVED, []), "recover")
+
+
+# Targets that only one clump's state makes valid: a pending target in a body of
+# each state.
+def pending_target_in_each_state():
+    for pending in (ACTIVATING, FREEING):
+        for state in (FREE, RESERVED, ACTIVE):
+            image = pool_of(clump(128, pending, (16576, 5)), clump(128, state),
+                            clump(128, ACTIVE))
+            for name in ("check", "recover"):
+                yield case(image, name)
+
+
+# Fault 4: each pair of unfinished clumps, side by side, apart, and three of them.
+def second_unfinished():
+    for one in (ACTIVATING, FREEING):
+        for other in (ACTIVATING, FREEING):
+            near = pool_of(clump(128, one), clump(128, other), clump(128, FREE))
+            apart = pool_of(clump(128, ACTIVE), clump(128, one), clump(128, FREE),
+                            clump(192, RESERVED), clump(128, other))
+            three = pool_of(clump(128, one), clump(128, ACTIVE), clump(128, other),
+                            clump(128, FREE), clump(128, one))
+            for image in (near, apart, three):
+                yield case(image, "check")
+                yield case(image, "recover")
+
+
+# Words that make a fault in a clump at an offset.
+def fault_words(fault, at):
+    return {1: {at: 64}, 2: {at + 8: 5}, 3: {at + 8: ACTIVE, at + 16: 0, at + 32: 4096}}[fault]
+
+
+# The order of judging within one clump: each set of faults 1 to 3 in the same
+# clump, and each pair of them in a lower and a higher clump.
+def fault_order_1_to_3():
+    base = pool_of(clump(128, ACTIVE), clump(192, RESERVED), clump(128, FREE),
+                   clump(128, ACTIVE))
+    for at in (16384, 16512):
+        for faults in ((1, 2), (1, 3), (2, 3), (1, 2, 3)):
+            words = {}
+            for fault in reversed(faults):
+                words.update(fault_words(fault, at))
+            yield case(with_words(base, words), "check")
+    for low in (1, 2, 3):
+        for high in (1, 2, 3):
+            words = {**fault_words(low, 16512), **fault_words(high, 16832)}
+            yield case(with_words(base, words), "check")
+            yield case(with_words(base, words), "recover")
+
+
+# The order of judging across clumps: faults 4 and 5 give way to any fault 1 to
+# 3, wherever it stands, and 5 gives way to 4.
+def fault_order_4_and_5():
+    four = pool_of(clump(128, ACTIVATING), clump(128, FREEING), clump(128, ACTIVE))
+    five = pool_of(clump(128, ACTIVATING, (16640 + 64, 1)), clump(128, ACTIVE),
+                   clump(128, FREE))
+    both = pool_of(clump(128, ACTIVATING, (8192, 1)), clump(128, FREEING, (1, 1)),
+                   clump(128, ACTIVE))
+    for image in (four, five, both):
+        yield case(image, "check")
+        yield case(image, "recover")
+        for fault in (1, 2, 3):
+            yield case(with_words(image, fault_words(fault, 16640)), "check")
+
+
+# One image for each fault, in their order.
+FAULTY = (
+    with_words(MIXED, {17024: 136}), with_words(MIXED, {17032: 7}),
+    with_words(MIXED, {17280 + 32: 4096}),
+    with_words(MIXED, {16392: FREEING, 17032: ACTIVATING}),
+    with_words(MIXED, {16840: ACTIVATING, 16848: 16704}))
+
+
+# Each fault, refused by each request with its place; create asks nothing of it.
+def fault_for_every_request():
+    for image in FAULTY:
+        for name, numbers in MIXED_REQUESTS:
+            yield case(image, name, *numbers)
+        yield case(image, "create")
+
+
+# ---------------------------------------------------------------------------
+# Sound, but not settled
+# ---------------------------------------------------------------------------
+
+# Numbers that would get the later answers, were the pool settled.
+REFUSABLE = (
+    ("reserve", (0,)), ("reserve", (LARGEST,)), ("reserve", (1,)),
+    ("onactive", (1, 4096, 1)), ("onactive", (16448, 1, 1)),
+    ("onfree", (16448, 4096, 1)), ("onfree", (2, 1, 1)), ("withdraw", (3,)),
+    ("withdraw", (16448,)), ("activate", (0,)), ("activate", (16448,)),
+    ("free", (LARGEST,)), ("free", (16448,)), ("check", ()), ("recover", ()))
+
+
+# Answer 3 by each of its reasons and before each later answer; check and
+# recover don't give it.
+def not_settled():
+    reasons = (
+        pool_of(clump(128, ACTIVATING), clump(128, FREE)),
+        pool_of(clump(128, ACTIVE), clump(128, FREEING, (4096, 4))),
+        pool_of(clump(128, ACTIVE), clump(128, FREE), clump(192, FREE)),
+        pool_of(clump(128, FREE), clump(128, FREE), clump(128, RESERVED)),
+        pool_of(clump(128, FREE), clump(128, FREE), clump(128, FREEING)))
+    for image in reasons:
+        for name, numbers in REFUSABLE:
+            yield case(image, name, *numbers)
+
+
+# FREE clumps with one live clump between them don't touch.
+def settled_after_all():
+    image = pool_of(clump(128, FREE), clump(128, RESERVED), clump(128, FREE),
+                    clump(128, ACTIVE), clump(128, FREE))
+    for name, numbers in (("check", ()), ("recover", ()), ("reserve", (64,)),
+                          ("withdraw", (16576,)), ("activate", (16576,)),
+                          ("free", (16576,)), ("free", (16832,))):
+        yield case(image, name, *numbers)
+
+
+# ---------------------------------------------------------------------------
+# Reserve
+# ---------------------------------------------------------------------------
+
+# Sizes round each multiple of 64 until the clump is too small, and round some
+# multiples in the usual pool up to its whole length.
+def sizes_round_64():
+    small = pool_of(clump(1088, FREE))
+    for multiple in range(0, 1152, 64):
+        for size in (multiple - 1, multiple, multiple + 1):
+            if size >= 0:
+                yield case(small, "reserve", size)
+    usual = fresh(32768)
+    for count in (1, 2, 3, 16, 32, 63, 64, 127, 128, 252, 253, 254, 255, 256):
+        for size in (64 * count - 1, 64 * count, 64 * count + 1):
+            yield case(usual, "reserve", size)
+
+
+# One FREE clump from too small to a rest of more than 128, for a few sizes.
+# Its old list words and those of the rest's header show which words are stored.
+def rests():
+    for size in (1, 64, 65, 1000, 1024):
+        need = pool.need_of(size)
+        for nbytes in range(max(need - 128, 128), need + 320, 64):
+            image = pool_of(clump(nbytes, FREE, (1, 2), (3, 4), (5, 6)))
+            if nbytes >= need + 64:
+                image = with_words(image, {16384 + need + at: 900 + at
+                                           for at in range(0, 64, 8)})
+            yield case(image, "reserve", size)
+            between = pool_of(clump(128, ACTIVE), clump(nbytes, FREE), clump(128, RESERVED))
+            yield case(between, "reserve", size)
+
+
+# First fit: FREE clumps of several sizes between live ones; the first that is
+# large enough is taken, never a better one further on.
+def first_fits():
+    live = clump(128, ACTIVE)
+    image = pool_of(clump(128, FREE), live, clump(320, FREE), live, clump(192, FREE),
+                    clump(128, RESERVED), clump(1088, FREE), live, clump(704, FREE))
+    for size in (1, 63, 64, 65, 127, 128, 129, 192, 193, 255, 256, 257, 320, 639, 640,
+                 641, 896, 897, 960, 961, 1023, 1024, 1025):
+        yield case(image, "reserve", size)
+
+
+# Sizes whose rounding or header would wrap, where there is room and where there
+# is none; and size 0 with and without room.
+def huge_sizes():
+    roomy = fresh(32768)
+    full = pool_of(clump(128, ACTIVE), clump(128, RESERVED))
+    sizes = EDGE_NUMBERS + (2**64 - 127, 2**64 - 129, 2**64 - 16448, 2**63 - 64,
+                            2**32 - 64, 2**32 + 1, 2**16)
+    for size in sizes:
+        yield case(roomy, "reserve", size)
+        yield case(full, "reserve", size)
+
+
+# ---------------------------------------------------------------------------
+# Requests on an offset
+# ---------------------------------------------------------------------------
+
+# Offsets beside, below and inside each kind of clump, and ones that wrap: 6
+# unless a body starts there, then 7 or more by the clump's state.
+def offsets_asked():
+    offsets = (0, 1, 63, 64, 4096, 8192, 12288, 16384, 16440, 16447, 16448, 16449,
+               16456, 16512, 16640, 16704, 16768, 16832, 16896, 17088, 17216, 17344,
+               17408, 17472, 17856, 17920, 17984, 2**32 + 16448, 2**63 + 16448,
+               2**64 - 64, 2**64 - 1)
+    for offset in offsets:
+        yield case(MIXED, "onactive", offset, 4096, 6)
+        yield case(MIXED, "onfree", offset, 4096, 6)
+        yield case(MIXED, "withdraw", offset)
+        yield case(MIXED, "activate", offset)
+        yield case(MIXED, "free", offset)
+
+
+# Onactive and onfree with targets on both sides of each border.
+def targets_added():
+    image = target_pool(ACTIVE, [], RESERVED, [(4096, 1)])
+    for index, target in enumerate(TARGETS):
+        yield case(image, "onactive", 16768, target, EDGE_NUMBERS[index % 17])
+        yield case(image, "onfree", 16448, target, EDGE_NUMBERS[(index + 5) % 17])
+
+
+# The list with none to three entries, with a good and a bad target: 8 comes
+# before 10, 7 before both, 6 before all.
+def lists_filled():
+    for count in range(4):
+        entries = [(4096 + 8 * slot, slot) for slot in range(count)]
+        for state in (FREE, RESERVED, ACTIVE):
+            image = pool_of(clump(128, state, *entries), clump(128, ACTIVE))
+            for target in (4096, 8192, 16448):
+                yield case(image, "onactive", 16448, target, 77)
+                yield case(image, "onfree", 16448, target, 77)
+        yield case(image, "onactive", 16456, 8192, 77)
+        yield case(image, "onfree", 16384, 8192, 77)
+
+
+# Any value goes into the list, also where old words stand in the empty entry.
+def values_added():
+    image = pool_of(clump(128, RESERVED, (4096, 1), (0, 999), (0, 998)),
+                    clump(128, ACTIVE, (0, LARGEST), (0, 2**63), (0, 5)))
+    for value in EDGE_NUMBERS + (16448, 999):
+        yield case(image, "onactive", 16448, 8184, value)
+        yield case(image, "onfree", 16576, 16632, value)
+
+
+# Withdraw with none to three entries in each state.
+def withdrawals():
+    for count in range(4):
+        entries = [(16448 + 8 * slot, 50 + slot) for slot in range(count)]
+        for state in (FREE, RESERVED, ACTIVE):
+            image = pool_of(clump(128, state, *entries), clump(128, RESERVED))
+            yield case(image, "withdraw", 16448)
+    stale = pool_of(clump(128, RESERVED, (0, 1), (0, 2), (0, 3)))
+    yield case(stale, "withdraw", 16448)
+    yield case(pool_of(clump(128, ACTIVE, (16384, 1))), "withdraw", 16448)
+
+
+# Activate and free with a listed target on each side of the borders within the
+# range that a sound list allows: it must be valid now.
+def targets_carried_out():
+    for index, target in enumerate(IN_RANGE):
+        entries = list_with(target, index % 3)
+        yield case(target_pool(ACTIVE, [], RESERVED, entries), "activate", 16768)
+        entries = list_with(target, (index + 1) % 3)
+        yield case(target_pool(ACTIVE, entries, RESERVED, []), "free", 16448)
+
+
+# A target that isn't valid in each entry, or in several; free of a RESERVED
+# clump drops its list and asks nothing of it.
+def targets_gone():
+    for bad in range(8):
+        entries = [(16640 + 8 * slot if bad >> slot & 1 else 4096 + 8 * slot, slot)
+                   for slot in range(3)]
+        yield case(target_pool(ACTIVE, [], RESERVED, entries), "activate", 16768)
+        yield case(target_pool(ACTIVE, [], RESERVED, entries), "free", 16768)
+        yield case(target_pool(ACTIVE, entries, RESERVED, []), "free", 16448)
+    for entries in ([(16640, 1)], [(4096, 1), (16704, 2)]):
+        yield case(target_pool(ACTIVE, [], RESERVED, entries), "activate", 16768)
+        yield case(target_pool(ACTIVE, entries, RESERVED, []), "free", 16448)
+
+
+# Document 01's case J up to its refusal.
+def case_j():
+    image = pool_of(clump(128, RESERVED, (16576, 5)), clump(128, ACTIVE),
+                    clump(128, FREE))
+    yield case(image, "free", 16576)
+    freed = after(image, "free", 16576)
+    yield case(freed, "activate", 16448)
+    yield case(freed, "free", 16448)
+    yield case(freed, "withdraw", 16448)
+    yield case(freed, "recover")
+
+
+# ---------------------------------------------------------------------------
+# Every cut of every kind of request
+# ---------------------------------------------------------------------------
+
+# Each choice below yields (image, name, numbers).
+
+# Reserve with a split, over old list words and old words where the rest's header
+# goes; with rests of 128, 64 and 0; in the second FREE clump.
+def reserve_choices():
+    old_list = ((1, 2), (3, 4), (5, 6))
+    between = pool_of(clump(128, ACTIVE), clump(640, FREE, *old_list), clump(128, RESERVED))
+    between = with_words(between, {16512 + 256 + at: 700 + at for at in range(0, 64, 8)})
+    yield dusty(fresh(16896), 1), "reserve", (100,)
+    yield between, "reserve", (192,)
+    yield pool_of(clump(1216, FREE, *old_list)), "reserve", (1000,)
+    yield pool_of(clump(1152, FREE, *old_list)), "reserve", (1000,)
+    yield pool_of(clump(1088, FREE, *old_list)), "reserve", (1000,)
+    yield pool_of(clump(128, FREE), clump(128, ACTIVE), clump(448, FREE, *old_list)), \
+        "reserve", (65,)
+
+
+# Onactive and onfree into the first, second and third entry, each over the value
+# that the empty entry has kept.
+def list_choices():
+    for name, state in (("onactive", RESERVED), ("onfree", ACTIVE)):
+        for count in range(3):
+            entries = [(4096, 1), (4104, 2)][:count] + [(0, 444)]
+            image = pool_of(clump(128, state, *entries), clump(128, FREE))
+            yield image, name, (16448, 16504, 1000 + count)
+
+
+# Withdraw of the first, second and third entry, RESERVED and ACTIVE.
+def withdraw_choices():
+    for state in (RESERVED, ACTIVE):
+        for count in (1, 2, 3):
+            entries = [(4096, 1), (4104, 2), (4112, 3)][:count]
+            yield pool_of(clump(128, state, *entries)), "withdraw", (16448,)
+
+
+# The lists that an activation is cut with: none to three entries, own body,
+# other bodies, static area, and the same target more than once.
+ACTIVATION_LISTS = (
+    [], [(4096, 7)], [(8184, 7)], [(16640, 7)], [(16448, 7)], [(16952, 7)],
+    [(4096, 7), (4096, 9)], [(16640, 7), (16696, 9)], [(16448, 7), (8184, 9)],
+    [(4096, 7), (4096, 8), (4096, 9)], [(4096, 7), (16640, 8), (4096, 9)],
+    [(16640, 7), (4104, 8), (16448, 9)], [(16952, 16640), (16896, 16640), (4096, 16640)])
+
+
+# The activated clump stands at 16576, body 16640 to 16703.
+def activate_choices():
+    for entries in ACTIVATION_LISTS:
+        image = pool_of(clump(192, ACTIVE), clump(128, RESERVED, *entries),
+                        clump(128, FREE), clump(128, RESERVED))
+        yield dusty(image, 2), "activate", (16640,)
+
+
+# A clump to be freed between neighbours; FREE ones are joined.
+def neighbours(state, entries, before, following):
+    return pool_of(clump(128, before), clump(192, state, *entries),
+                   clump(256, following), clump(128, ACTIVE))
+
+
+FREE_LISTS = ([], [(4096, 7)], [(16576, 7), (4096, 8)], [(4096, 7), (17024, 8), (4096, 9)])
+
+
+# Free of ACTIVE and of RESERVED with each pair of neighbours and none to three
+# entries; also of the first, the last and the only clump.
+def free_choices():
+    for before in (FREE, ACTIVE):
+        for following in (FREE, RESERVED):
+            for entries in FREE_LISTS:
+                yield neighbours(ACTIVE, entries, before, following), "free", (16576,)
+                yield neighbours(RESERVED, entries, before, following), "free", (16576,)
+    pair = (clump(128, ACTIVE, (16448, 3)), clump(192, FREE))
+    yield dusty(pool_of(*pair), 3), "free", (16448,)
+    yield dusty(pool_of(clump(192, FREE), clump(128, ACTIVE, (16640, 3))), 4), "free", (16640,)
+    yield pool_of(clump(128, RESERVED)), "free", (16448,)
+    yield pool_of(clump(128, ACTIVE, (16448, 1), (16504, 2), (8184, 3))), "free", (16448,)
+
+
+# Recover of an activation and a freeing with each pattern of used entries.
+def recover_unfinished_choices():
+    targets = (4096, 16704, 17216)
+    for state in (ACTIVATING, FREEING):
+        for pattern in range(8):
+            entries = [(targets[slot] if pattern >> slot & 1 else 0, 60 + slot)
+                       for slot in range(3)]
+            yield dusty(unfinished(state, *entries), 5), "recover", ()
+
+
+# Recover of RESERVED clumps and FREE runs in all arrangements: none, one, runs
+# of two and more, runs that only recovery makes, duplicates, whole pools.
+def recover_other_choices():
+    arrangements = (
+        (FREE,), (ACTIVE,), (RESERVED,), (FREE, FREE), (RESERVED, RESERVED),
+        (ACTIVE, FREE, ACTIVE), (FREE, RESERVED, FREE), (RESERVED, FREE, ACTIVE),
+        (FREE, FREE, ACTIVE, FREE, FREE, FREE), (RESERVED,) * 6,
+        (ACTIVE, RESERVED, ACTIVE, RESERVED, ACTIVE, FREE),
+        (FREE, FREEING, FREE), (RESERVED, FREEING, RESERVED), (FREEING, ACTIVE, RESERVED),
+        (ACTIVATING,), (FREEING,), (RESERVED, ACTIVATING, RESERVED, FREE),
+        (FREE, FREE, ACTIVATING, FREE, FREE))
+    for states in arrangements:
+        image = pool_of(*(clump(128 + 64 * (index % 3), state)
+                          for index, state in enumerate(states)))
+        yield image, "recover", ()
+    twice = pool_of(clump(128, FREEING, (4096, 1), (0, 2), (4096, 3)), clump(128, FREE))
+    yield twice, "recover", ()
+    to_reserved = pool_of(clump(128, RESERVED), clump(128, ACTIVATING, (16448, 5), (16504, 6)))
+    yield to_reserved, "recover", ()
+
+
+CHOICES = (reserve_choices, list_choices, withdraw_choices, activate_choices,
+           free_choices, recover_unfinished_choices, recover_other_choices)
+
+
+def all_choices():
+    return [choice for family in CHOICES for choice in family()]
+
+
+# Each fuse from 0 to the list's length, one more, and the largest.
+def every_cut():
+    for image, name, numbers in all_choices():
+        length = stores_of(image, name, numbers)
+        for fuse in list(range(length + 2)) + [LARGEST]:
+            yield case(image, name, *numbers, fuse=fuse)
+
+
+# Fuses that a narrower count would take for small ones.
+def wide_fuses():
+    chosen = [next(iter(family())) for family in CHOICES]
+    for image, name, numbers in chosen:
+        for fuse in (2**16, 2**31, 2**32, 2**32 + 1, 2**63, 2**64 - 2):
+            yield case(image, name, *numbers, fuse=fuse)
+
+
+# A fuse means nothing to a refusal, nor to check.
+def fuses_of_refusals():
+    for fuse in (0, 1, LARGEST):
+        yield case(MIXED, "check", fuse=fuse)
+        yield case(bytearray(64), "create", fuse=fuse)
+        yield case(bytearray(16512), "recover", fuse=fuse)
+        yield case(FAULTY[0], "recover", fuse=fuse)
+        yield case(MIXED, "reserve", 0, fuse=fuse)
+        yield case(MIXED, "reserve", 10000, fuse=fuse)
+        yield case(MIXED, "onactive", 5, 4096, 1, fuse=fuse)
+        yield case(MIXED, "onfree", MIXED_FREE, 4096, 1, fuse=fuse)
+        yield case(MIXED, "onactive", MIXED_RESERVED, 4096, 1, fuse=fuse)
+        yield case(MIXED, "withdraw", MIXED_BARE_ACTIVE, fuse=fuse)
+        yield case(MIXED, "onactive", MIXED_BARE_RESERVED, 8192, 1, fuse=fuse)
+        yield case(MIXED, "activate", MIXED_ACTIVE, fuse=fuse)
+
+
+CREATE_FUSES = (0, 1, 2, 3, 256, 511, 512, 513, 514, 515, 516, 517, 1022, 1023, 1024,
+                1025, 1026, 1030, 1031, 1032, 1033, 1034, 2**32, 2**63, LARGEST)
+
+
+# Create at the cuts where its parts meet, over dust and over an older pool,
+# and over a pool of the same length that was whole before.
+def create_cuts():
+    over_dust = with_words(bytearray(16576), {
+        0: 1, 4088: 2, 4096: 3, 8184: 4, 8192: 5, 12280: 6, 12288: 7, 12296: 8,
+        12304: 9, 12312: 10, 16376: 11, 16384: 12, 16392: 13, 16440: 14, 16448: 15,
+        16568: 16})
+    over_pool = dusty(MIXED, 6)
+    for fuse in CREATE_FUSES:
+        yield case(over_dust, "create", fuse=fuse)
+        yield case(over_pool, "create", fuse=fuse)
+
+
+# What the requests make of a cut creation: no pool, unless nothing was stored.
+def after_create_cuts():
+    asked = (("check", ()), ("recover", ()), ("reserve", (1,)), ("free", (MIXED_ACTIVE,)))
+    for index, fuse in enumerate(CREATE_FUSES[:20]):
+        name, numbers = asked[index % 4]
+        yield case(after(fresh(16576), "create", fuse=fuse), name, *numbers)
+        yield case(after(dusty(MIXED, 6), "create", fuse=fuse), name, *numbers)
+    yield case(after(MIXED, "create", fuse=600), "create")
+
+
+# ---------------------------------------------------------------------------
+# Recoveries of cut images
+# ---------------------------------------------------------------------------
+
+# What each cut of each choice leaves, once a store was made.
+def cut_images():
+    for image, name, numbers in all_choices():
+        for fuse in range(1, stores_of(image, name, numbers)):
+            yield after(image, name, *numbers, fuse=fuse)
+
+
+# Every cut image, recovered in one go.
+def recoveries():
+    for image in cut_images():
+        yield case(image, "recover")
+
+
+# The recovery cut as well, at a place that moves on from image to image, and the
+# recovery of what that leaves.
+def recoveries_cut_again():
+    for index, image in enumerate(cut_images()):
+        length = stores_of(image, "recover", ())
+        if length >= 2 and index % 2 == 0:
+            fuse = 1 + index // 2 % (length - 1)
+            yield case(image, "recover", fuse=fuse)
+            yield case(after(image, "recover", fuse=fuse), "recover")
+
+
+# One pool recovered again and again, each time with one store more than before,
+# until a recovery is whole and the next one has nothing to do.  With the same
+# fuse it might never end: recovery assigns from the first entry each time.
+def longer_and_longer_recoveries():
+    image = dusty(unfinished(ACTIVATING, (4096, 1), (16704, 2), (17216, 3)), 7)
+    fuse = 0
+    while stores_of(image, "recover", ()):
+        yield case(image, "recover", fuse=fuse)
+        image = after(image, "recover", fuse=fuse)
+        fuse += 1
+    yield case(image, "recover", fuse=0)
+
+
+# Cut images asked for something else than recovery.
+def cut_images_asked():
+    for index, image in enumerate(cut_images()):
+        name, numbers = REFUSABLE[index % 14]
+        if index % 4 == 0:
+            yield case(image, name, *numbers)
+
+
+# ---------------------------------------------------------------------------
+# Bytes that no answer may depend on
+# ---------------------------------------------------------------------------
+
+# Pairs of images that differ only in bodies, the static area and pages 0 and
+# 8192: equal answers, places and counts, and the dust stays where it is.
+def dust():
+    for seed in range(100, 103):
+        for name, numbers in MIXED_REQUESTS:
+            yield case(dusty(MIXED, seed), name, *numbers)
+        yield case(dusty(MIXED, seed), "create")
+    # A body that looks like clump headers is still a body.
+    lure = with_words(MIXED, {16448: 128, 16456: FREE, 16512: 64, 16520: 9})
+    for name, numbers in MIXED_REQUESTS:
+        yield case(lure, name, *numbers)
+    # The list of a FREE clump means nothing, whatever it holds.
+    for words in ((LARGEST, 0, 0), (0, 0, 4096), (1, 0, LARGEST), (16384, 8, 3)):
+        image = pool_of(clump(128, ACTIVE), clump(256, FREE, *((word, word) for word in words)))
+        for name, numbers in (("check", ()), ("reserve", (1,)), ("free", (16448,)),
+                              ("recover", ())):
+            yield case(image, name, *numbers)
+
+
+# ---------------------------------------------------------------------------
+# Chance
+# ---------------------------------------------------------------------------
+
+REQUEST_NAMES = ("create", "reserve", "onactive", "onfree", "withdraw", "activate",
+                 "free", "check", "recover")
+
+
+def some_target(dice, length):
+    if dice.one_in(12):
+        return dice.pick(TARGETS + EDGE_NUMBERS)
+    if dice.one_in(3):
+        return dice.between(512, 1023) * 8
+    return dice.between(2048, length // 8 - 1) * 8
+
+
+# Numbers for a request that often fit the pool: sizes small, offsets at bodies.
+def some_numbers(dice, image, name, bodies):
+    size = dice.pick((1, 64, 65, 100, 128, 200, 256, 500, 1000, dice.between(1, 2000)))
+    if name == "reserve":
+        return (size,)
+    offset = dice.pick(bodies)
+    numbers = (offset, some_target(dice, max(len(image), 16512)), dice.word())
+    return numbers[:pool.NUMBERS_TAKEN[name]]
+
+
+def some_fuse(dice):
+    return LARGEST if dice.one_in(2) else dice.between(0, 8)
+
+
+# Images of nothing but random words; few are long enough, none is a pool.
+def garbage():
+    dice = Dice(2001)
+    for _ in range(40):
+        length = dice.pick(LENGTHS + (32768, 65536, 16512))
+        words = {dice.below(length // 8) * 8: dice.word()
+                 for _ in range(dice.between(0, 24)) if length >= 8}
+        image = with_words(bytearray(length), words)
+        name = dice.pick(REQUEST_NAMES)
+        yield case(image, name, *some_numbers(dice, image, name, (16448, 4096)),
+                   fuse=some_fuse(dice))
+
+
+# A right header, and random words where the clumps should stand.
+def garbage_clumps():
+    dice = Dice(2002)
+    for _ in range(60):
+        length = 16384 + 64 * dice.between(2, 12)
+        words = {dice.between(2048, length // 8 - 1) * 8: dice.word()
+                 for _ in range(dice.between(1, 30))}
+        words[16384] = dice.pick((128, 192, length - 16384, dice.word()))
+        image = with_words(bytearray(length), {**words, **pool_header(length)})
+        name = dice.pick(REQUEST_NAMES)
+        yield case(image, name, *some_numbers(dice, image, name, (16448, 16512, 16576)),
+                   fuse=some_fuse(dice))
+
+
+# Sizes and entries that are often right but need not be.
+def nearly_right_clump(dice, length):
+    nbytes = dice.between(2, 5) * 64 + (dice.below(64) if dice.one_in(30) else 0)
+    state = dice.below(6) if dice.one_in(8) else dice.pick((FREE, RESERVED, ACTIVE))
+    count = dice.pick((0, 0, 1, 2, 3))
+    entries = [(some_target(dice, length), dice.word()) for _ in range(count)]
+    if dice.one_in(20):
+        entries = [(0, 1)] + entries[:2]
+    return nbytes, state, entries
+
+
+# Clumps with small sizes, any state and plausible lists: sound or not by chance.
+def nearly_right_pools():
+    dice = Dice(2003)
+    for _ in range(120):
+        length = 16384 + 64 * dice.between(4, 30)
+        image = with_words(bytearray(length), pool_header(length))
+        offset, bodies = 16384, []
+        while length - offset >= 128:
+            nbytes, state, entries = nearly_right_clump(dice, length)
+            if length - offset - nbytes < 128:
+                nbytes = length - offset
+            image = with_words(image, {offset + 8 * at: word for at, word in
+                                       enumerate(clump(nbytes, state, *entries))})
+            bodies.append(offset + 64)
+            offset += max(nbytes // 64, 1) * 64
+        name = dice.pick(("check", "recover") + REQUEST_NAMES[1:])
+        yield case(image, name, *some_numbers(dice, image, name, bodies),
+                   fuse=some_fuse(dice))
+
+
+# A sound pool by chance.  At most one clump is unfinished, and its targets are
+# valid; the lists of RESERVED and ACTIVE clumps may have gone stale.
+def sound_pool(dice, settled):
+    states = [dice.pick((FREE, RESERVED, ACTIVE, ACTIVE)) for _ in range(dice.between(2, 9))]
+    if settled:
+        states = [state for at, state in enumerate(states)
+                  if state != FREE or at == 0 or states[at - 1] != FREE]
+    elif dice.one_in(2):
+        states[dice.below(len(states))] = dice.pick((ACTIVATING, FREEING))
+    image = pool_of(*(clump(64 * dice.between(2, 6), state) for state in states))
+    clumps = list(pool.walk(image))
+    for one in clumps:
+        for at in range(dice.below(4) if one.state != FREE else 0):
+            target = good_target(dice, image, clumps, one)
+            pool.put_word(image, one.offset + 16 + 16 * at, target)
+            pool.put_word(image, one.offset + 24 + 16 * at, dice.word())
+    return dusty(image, dice.word())
+
+
+def good_target(dice, image, clumps, one):
+    while True:
+        target = some_target(dice, len(image))
+        stale = not pool.is_unfinished(one) and dice.one_in(6)
+        if stale and target and not pool.is_out_of_range(image, target):
+            return target
+        if pool.is_valid(clumps, target):
+            return target
+
+
+# Sound pools by chance, each with a request that is cut more often than not.
+def sound_pools():
+    dice = Dice(2004)
+    for index in range(160):
+        image = sound_pool(dice, settled=index % 4 != 0)
+        bodies = [pool.body_of(one) for one in pool.walk(image)]
+        names = REQUEST_NAMES[1:] if index % 4 else ("recover",)
+        name = dice.pick(names)
+        yield case(image, name, *some_numbers(dice, image, name, bodies),
+                   fuse=some_fuse(dice))
+
+
+DAMAGED = (MIXED, fresh(32768), unfinished(ACTIVATING, (4096, 1), (16704, 2), (17216, 3)),
+           unfinished(FREEING, (16768, 1)),
+           pool_of(*(clump(128, (FREE, ACTIVE, RESERVED)[at % 3]) for at in range(12))))
+
+
+# Where a damaged word may lie: mostly in a clump's header.
+def damaged_offset(dice, image):
+    where = dice.below(8)
+    if where == 0:
+        return dice.below(len(image) // 8) * 8
+    if where == 1:
+        return 12288 + 8 * dice.below(512)
+    return dice.pick(list(pool.walk(image))).offset + 8 * dice.below(8)
+
+
+def damaged_word(dice, old):
+    near = (old + dice.pick((-128, -64, -8, -1, 1, 8, 64, 128))) % 2**64
+    return dice.pick((near, near, dice.below(6), dice.pick(EDGE_NUMBERS),
+                      dice.pick(TARGETS), old + 2**32 & LARGEST, dice.word()))
+
+
+# Valid pools with one word changed, or one bit.
+def damage():
+    dice = Dice(2005)
+    for index in range(250):
+        image = DAMAGED[index % len(DAMAGED)]
+        bodies = [pool.body_of(one) for one in pool.walk(image)]
+        at = damaged_offset(dice, image)
+        if dice.one_in(3):
+            image = flip_bit(image, at + dice.below(8), dice.below(8))
+        else:
+            image = with_words(image, {at: damaged_word(dice, pool.word(image, at))})
+        name = "check" if dice.one_in(2) else dice.pick(REQUEST_NAMES[1:])
+        yield case(image, name, *some_numbers(dice, image, name, bodies),
+                   fuse=some_fuse(dice))
+
+
+# The states that each request on an offset asks for.
+STATES_WANTED = {"onactive": (RESERVED,), "activate": (RESERVED,), "onfree": (ACTIVE,),
+                 "free": (ACTIVE, RESERVED), "withdraw": (RESERVED, ACTIVE)}
+
+# What a history is made of: more is reserved than freed, so the pool fills.
+HISTORY_NAMES = ("reserve",) * 5 + ("onactive",) * 4 + ("onfree",) * 3 + (
+    "activate",) * 3 + ("free",) * 3 + ("withdraw", "check")
+
+
+# The next request of a history: mostly what the pool is ready for.
+def next_request(dice, image):
+    clumps = list(pool.walk(image))
+    unready = any(map(pool.is_unfinished, clumps)) or pool.has_touching_free(clumps)
+    if (unready and not dice.one_in(4)) or dice.one_in(30):
+        return "recover", ()
+    name = dice.pick(HISTORY_NAMES)
+    fitting = [pool.body_of(one) for one in clumps
+               if one.state in STATES_WANTED.get(name, (FREE,))]
+    if dice.one_in(12):
+        fitting = [pool.body_of(one) for one in clumps]
+    if not fitting:
+        name = "reserve"
+    return name, history_numbers(dice, image, clumps, name, fitting)
+
+
+def history_numbers(dice, image, clumps, name, fitting):
+    while True:
+        numbers = some_numbers(dice, image, name, fitting)
+        if len(numbers) < 3 or pool.is_valid(clumps, numbers[1]) or dice.one_in(30):
+            return numbers
+
+
+MOST_WORDS = 120
+
+
+def words_in(image):
+    return sum(1 for at in range(0, len(image) - 7, 8) if any(image[at:at + 8]))
+
+
+# Histories in a pool of 32,768 bytes: what was reserved, listed, activated and
+# freed before shapes the image of the next case; now and then the power fails.
+def histories():
+    for seed in range(3001, 3010):
+        dice = Dice(seed)
+        image = fresh(32768)
+        for step in range(60):
+            name, numbers = next_request(dice, image)
+            fuse = dice.below(7) if dice.one_in(6) else LARGEST
+            if words_in(image) > MOST_WORDS:
+                break
+            if step % 2 == seed % 2:
+                yield case(image, name, *numbers, fuse=fuse)
+            image = after(image, name, *numbers, fuse=fuse)
+
+
+FAMILIES = (
+    lengths, no_pool_for_every_request, header_bits, total_sizes, padding,
+    no_pool_before_faults, bad_sizes, last_64_bytes, bad_states, entry_patterns,
+    listed_targets, pending_targets, pending_target_in_each_state, second_unfinished,
+    fault_order_1_to_3, fault_order_4_and_5, fault_for_every_request, not_settled,
+    settled_after_all, sizes_round_64, rests, first_fits, huge_sizes, offsets_asked,
+    targets_added, lists_filled, values_added, withdrawals, targets_carried_out,
+    targets_gone, case_j, every_cut, wide_fuses, fuses_of_refusals, create_cuts,
+    after_create_cuts, recoveries, recoveries_cut_again, longer_and_longer_recoveries,
+    cut_images_asked, dust, garbage, garbage_clumps, nearly_right_pools, sound_pools,
+    damage, histories)
+
+
+def all_cases():
+    seen = set()
+    cases = []
+    for family in FAMILIES:
+        for one in family():
+            if one not in seen:
+                seen.add(one)
+                cases.append(one)
+    return cases

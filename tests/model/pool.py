@@ -1,0 +1,600 @@
+"""A model of the pool, written from document 01 and in its order.
+
+An image is a bytearray.  A request takes the image, its numbers and a fuse,
+changes the image as far as the fuse lasts, and returns
+(answer, place, fault, stores).  The comment above a function quotes the rule
+that the function follows.  Nothing here is quick or clever: it is meant to be
+held against the paper, line by line.
+"""
+
+from collections import namedtuple
+from functools import wraps
+
+LARGEST = 2**64 - 1
+
+Answer = namedtuple("Answer", "answer place fault stores")
+Entry = namedtuple("Entry", "offset target value")
+Clump = namedtuple("Clump", "offset nbytes state entries")
+
+
+# "All words are unsigned, 8 bytes, least significant byte first, at offsets
+# divisible by 8."
+def word(image, offset):
+    assert offset % 8 == 0 and 0 <= offset <= len(image) - 8
+    return int.from_bytes(image[offset:offset + 8], "little")
+
+
+# "Each store changes at most one aligned word."
+def put_word(image, offset, value):
+    # A slice past the end would make a bytearray grow, so it is shut out here.
+    assert offset % 8 == 0 and 0 <= offset <= len(image) - 8
+    image[offset:offset + 8] = value.to_bytes(8, "little")
+
+
+# ---------------------------------------------------------------------------
+# Pages
+# ---------------------------------------------------------------------------
+
+STATIC = 4096
+STATIC_END = 8192
+HEADER = 12288
+SECOND_SIGNATURE_WORD = 12296
+TOTAL_SIZE = 12304
+PADDING = 12312
+CLUMPS = 16384
+
+SIGNATURE = b"*PMEMALLOC_POOL\0"
+
+
+# "Length: 16,512 to 1,073,741,824 bytes, divisible by 64."
+def has_good_length(image):
+    return 16512 <= len(image) <= 1073741824 and len(image) % 64 == 0
+
+
+# "12288 | signature `*PMEMALLOC_POOL` and one zero byte (16 bytes)"
+def has_signature(image):
+    return image[HEADER:TOTAL_SIZE] == SIGNATURE
+
+
+# "12304 | total size, equal to the image's length"
+def has_total_size(image):
+    return word(image, TOTAL_SIZE) == len(image)
+
+
+# "12312 to 16383 | zero"
+def has_zero_padding(image):
+    return not any(image[PADDING:CLUMPS])
+
+
+# "not a pool: length, signature, total size or zero padding"
+def is_pool(image):
+    return (has_good_length(image) and has_signature(image)
+            and has_total_size(image) and has_zero_padding(image))
+
+
+# ---------------------------------------------------------------------------
+# Clump header, 64 bytes
+# ---------------------------------------------------------------------------
+
+FREE, RESERVED, ACTIVATING, ACTIVE, FREEING = range(5)
+
+STATE_WORD = 8
+TARGET_WORDS = (16, 32, 48)
+HEADER_BYTES = 64
+
+
+# "Word 0 is nbytes, header included.  Word 8 is the state [..].  Offsets 16, 32
+# and 48 hold the three entries of the on-list, each a target word and then a
+# value word"
+def clump_at(image, offset):
+    entries = tuple(
+        Entry(offset + at, word(image, offset + at), word(image, offset + at + 8))
+        for at in TARGET_WORDS)
+    return Clump(offset, word(image, offset), word(image, offset + STATE_WORD), entries)
+
+
+# "target 0 means empty"
+def is_used(entry):
+    return entry.target != 0
+
+
+# "a used entry": one that isn't empty.
+def used_entries(clump):
+    return [entry for entry in clump.entries if is_used(entry)]
+
+
+# "The body is what follows the header."
+def body_of(clump):
+    return clump.offset + HEADER_BYTES
+
+
+# "its offset plus nbytes"
+def end_of(clump):
+    return clump.offset + clump.nbytes
+
+
+# "a clump is ACTIVATING or FREEING"
+def is_unfinished(clump):
+    return clump.state in (ACTIVATING, FREEING)
+
+
+# ---------------------------------------------------------------------------
+# A sound pool
+# ---------------------------------------------------------------------------
+
+# "The walk starts at 16384; each clump is followed by the one at its offset
+# plus nbytes."
+def walk(image):
+    # A generator, so that a judge can stop at a bad size before it is stepped by.
+    offset = CLUMPS
+    while offset < len(image):
+        clump = clump_at(image, offset)
+        yield clump
+        offset = end_of(clump)
+
+
+# "1. size: nbytes not divisible by 64, below 128, or past the end"
+def has_bad_size(image, clump):
+    return clump.nbytes % 64 != 0 or clump.nbytes < 128 or end_of(clump) > len(image)
+
+
+# "2. state above 4"
+def has_bad_state(clump):
+    return clump.state > 4
+
+
+# "a used entry after an empty one"
+def has_gap(clump):
+    used = [is_used(entry) for entry in clump.entries]
+    return any(not before and after for before, after in zip(used, used[1:]))
+
+
+# "a target that isn't divisible by 8 or lies neither in 4096..8184 nor in
+# 16384..length-8"
+def is_out_of_range(image, target):
+    in_static = 4096 <= target <= 8184
+    in_clumps = 16384 <= target <= len(image) - 8
+    return target % 8 != 0 or not (in_static or in_clumps)
+
+
+# "3. list: in a RESERVED or ACTIVE clump [..]"
+def has_bad_list(image, clump):
+    if clump.state not in (RESERVED, ACTIVE):
+        return False
+    return has_gap(clump) or any(
+        is_out_of_range(image, entry.target) for entry in used_entries(clump))
+
+
+# "Faults 1 to 3 are sought together, lowest clump first and in that order
+# within it"
+def fault_within(image, clump):
+    if has_bad_size(image, clump):
+        return 1
+    if has_bad_state(clump):
+        return 2
+    if has_bad_list(image, clump):
+        return 3
+    return 0
+
+
+# "its 8 bytes lie [..] wholly in one body whose clump isn't FREE"
+def lies_in_live_body(clumps, target):
+    return any(clump.state != FREE and body_of(clump) <= target
+               and target + 8 <= end_of(clump) for clump in clumps)
+
+
+# "A target is valid if divisible by 8 and its 8 bytes lie in the static area or
+# wholly in one body whose clump isn't FREE."
+def is_valid(clumps, target):
+    in_static = STATIC <= target and target + 8 <= STATIC_END
+    return target % 8 == 0 and (in_static or lies_in_live_body(clumps, target))
+
+
+# "a used target that isn't valid", the other way round
+def all_targets_valid(clumps, clump):
+    return all(is_valid(clumps, entry.target) for entry in used_entries(clump))
+
+
+# "4. a second clump that is ACTIVATING or FREEING; 5. in the one ACTIVATING or
+# FREEING clump, a used target that isn't valid.  Empty entries may stand
+# anywhere in such a clump."
+def fault_across(clumps):
+    unfinished = [clump for clump in clumps if is_unfinished(clump)]
+    if len(unfinished) > 1:
+        return 4, unfinished[1].offset
+    if unfinished and not all_targets_valid(clumps, unfinished[0]):
+        return 5, unfinished[0].offset
+    return 0, 0
+
+
+# "Faults 1 to 3 are sought together [..]; then 4, then 5.  The place is the
+# header offset of the clump at fault (for 4, of the second)."
+def fault_and_place(image):
+    clumps = []
+    for clump in walk(image):
+        fault = fault_within(image, clump)
+        if fault:
+            return fault, clump.offset
+        clumps.append(clump)
+    return fault_across(clumps)
+
+
+# ---------------------------------------------------------------------------
+# What a request answers
+# ---------------------------------------------------------------------------
+
+class Refused(Exception):
+    """Ends a request at the first test that holds."""
+
+    def __init__(self, answer, place=0, fault=0):
+        super().__init__(answer, place, fault)
+        # "Answers 1 to 10 make no store."
+        self.given = Answer(answer, place, fault, 0)
+
+
+# "Tests go by rising number; each answer is given exactly when its test is the
+# first to hold."
+def request(body):
+    @wraps(body)
+    def asked(*numbers, **options):
+        try:
+            return body(*numbers, **options)
+        except Refused as refused:
+            return refused.given
+    return asked
+
+
+# "1 | not a pool"; "2 | not sound"
+def sound_clumps(image):
+    if not is_pool(image):
+        raise Refused(1)
+    fault, place = fault_and_place(image)
+    if fault:
+        raise Refused(2, place, fault)
+    return list(walk(image))
+
+
+# "two FREE clumps touch"
+def has_touching_free(clumps):
+    return any(one.state == FREE and next_one.state == FREE
+               for one, next_one in zip(clumps, clumps[1:]))
+
+
+# "3 | sound, but a clump is ACTIVATING or FREEING, or two FREE clumps touch"
+def settled_clumps(image):
+    clumps = sound_clumps(image)
+    if any(is_unfinished(clump) for clump in clumps) or has_touching_free(clumps):
+        raise Refused(3)
+    return clumps
+
+
+# "6 | no clump has its body at that offset"
+def clump_with_body(clumps, offset):
+    for clump in clumps:
+        if body_of(clump) == offset:
+            return clump
+    raise Refused(6)
+
+
+# "7 | state doesn't allow it"
+def demand_state(clump, *states):
+    if clump.state not in states:
+        raise Refused(7)
+
+
+# "8 | list full"
+def first_empty_entry(clump):
+    for entry in clump.entries:
+        if not is_used(entry):
+            return entry
+    raise Refused(8)
+
+
+# "9 | list empty (withdraw)"
+def last_used_entry(clump):
+    if not used_entries(clump):
+        raise Refused(9)
+    return used_entries(clump)[-1]
+
+
+# "10 | target not valid"
+def demand_valid_target(clumps, target):
+    if not is_valid(clumps, target):
+        raise Refused(10)
+
+
+# "every used target must be valid now, else 10"
+def demand_valid_list(clumps, clump):
+    if not all_targets_valid(clumps, clump):
+        raise Refused(10)
+
+
+# "Check also gives five byte totals, one for each state, each the sum of nbytes
+# over the clumps in that state"
+def totals_of(clumps):
+    return tuple(sum(clump.nbytes for clump in clumps if clump.state == state)
+                 for state in range(5))
+
+
+# "Check and recover never give 3."  "With a refusal all five are 0."
+def check(image):
+    try:
+        return Answer(0, 0, 0, 0), totals_of(sound_clumps(image))
+    except Refused as refused:
+        return refused.given, (0, 0, 0, 0, 0)
+
+
+# ---------------------------------------------------------------------------
+# Stores and the fuse
+# ---------------------------------------------------------------------------
+
+# "A request is a definite list of word stores.  It carries a fuse, the number
+# of stores that the power lasts for, and makes the first so many.  If the list
+# is longer, the answer is 11; a fuse equal to its length is enough."
+def carry_out(image, stores, place, fuse):
+    made = stores[:fuse]
+    for offset, value in made:
+        put_word(image, offset, value)
+    if len(stores) > fuse:
+        return Answer(11, 0, 0, len(made))
+    return Answer(0, place, 0, len(made))
+
+
+# "Word 8 is the state"
+def state_store(clump, state):
+    return clump.offset + STATE_WORD, state
+
+
+# "each value to its target, in list order"
+def assignments(clump):
+    return [(entry.target, entry.value) for entry in used_entries(clump)]
+
+
+# "0 to each used target word of the list, first to last"
+def list_emptying(clump):
+    return [(entry.offset, 0) for entry in used_entries(clump)]
+
+
+# "the words 12296 to 16376 upward as the header wants them"
+def header_stores(length):
+    wanted = {SECOND_SIGNATURE_WORD: int.from_bytes(SIGNATURE[8:], "little"),
+              TOTAL_SIZE: length}
+    return [(offset, wanted.get(offset, 0))
+            for offset in range(SECOND_SIGNATURE_WORD, CLUMPS, 8)]
+
+
+# "the eight words at 16384 (nbytes = length - 16384, then zeros)"
+def only_clump_stores(length):
+    return [(CLUMPS, length - CLUMPS)] + [(CLUMPS + at, 0) for at in range(8, 64, 8)]
+
+
+# "Create: 0 to 12288; 0 to each static word, upward; the words 12296 to 16376
+# [..]; the eight words at 16384 [..]; last the first signature word at 12288."
+def create_stores(length):
+    return ([(HEADER, 0)]
+            + [(offset, 0) for offset in range(STATIC, STATIC_END, 8)]
+            + header_stores(length)
+            + only_clump_stores(length)
+            + [(HEADER, int.from_bytes(SIGNATURE[:8], "little"))])
+
+
+# "Create gives 1 only for length."
+@request
+def create(image, fuse=LARGEST):
+    if not has_good_length(image):
+        raise Refused(1)
+    return carry_out(image, create_stores(len(image)), 0, fuse)
+
+
+# "need = 64 + the size rounded up to a multiple of 64, in whole numbers, never
+# wrapped."
+def need_of(size):
+    return 64 + (size + 63) // 64 * 64
+
+
+# "The scan stops at the first FREE clump with nbytes at least need."
+def first_fit(clumps, need):
+    for clump in clumps:
+        if clump.state == FREE and clump.nbytes >= need:
+            return clump
+    raise Refused(5)
+
+
+# "0 to the three targets of the chosen clump"
+def targets_cleared(clump):
+    return [(entry.offset, 0) for entry in clump.entries]
+
+
+# "With a rest of 128 or more: nbytes and state FREE of the rest's header; then
+# 0 to the three targets of the chosen clump; nbytes = need; state RESERVED."
+def split_stores(clump, need):
+    rest = clump.offset + need
+    return ([(rest, clump.nbytes - need), (rest + STATE_WORD, FREE)]
+            + targets_cleared(clump)
+            + [(clump.offset, need), state_store(clump, RESERVED)])
+
+
+# "With a smaller rest the whole clump is used: targets, state, 4 stores."
+def whole_stores(clump):
+    return targets_cleared(clump) + [state_store(clump, RESERVED)]
+
+
+# "reserve: the body's offset"; "4 | size 0"; "5 | no room"
+@request
+def reserve(image, size, fuse=LARGEST):
+    clumps = settled_clumps(image)
+    if size == 0:
+        raise Refused(4)
+    need = need_of(size)
+    clump = first_fit(clumps, need)
+    splits = clump.nbytes - need >= 128
+    stores = split_stores(clump, need) if splits else whole_stores(clump)
+    return carry_out(image, stores, body_of(clump), fuse)
+
+
+# "into the first empty entry, value, then target.  Any value.  The target must
+# be valid now."
+def add_entry(image, state, offset, target, value, fuse):
+    clumps = settled_clumps(image)
+    clump = clump_with_body(clumps, offset)
+    demand_state(clump, state)
+    entry = first_empty_entry(clump)
+    demand_valid_target(clumps, target)
+    stores = [(entry.offset + 8, value), (entry.offset, target)]
+    return carry_out(image, stores, offset, fuse)
+
+
+# "Onactive (RESERVED)"
+@request
+def onactive(image, offset, target, value, fuse=LARGEST):
+    return add_entry(image, RESERVED, offset, target, value, fuse)
+
+
+# "onfree (ACTIVE)"
+@request
+def onfree(image, offset, target, value, fuse=LARGEST):
+    return add_entry(image, ACTIVE, offset, target, value, fuse)
+
+
+# "Withdraw (RESERVED or ACTIVE): 0 to the last used target."
+@request
+def withdraw(image, offset, fuse=LARGEST):
+    clump = clump_with_body(settled_clumps(image), offset)
+    demand_state(clump, RESERVED, ACTIVE)
+    return carry_out(image, [(last_used_entry(clump).offset, 0)], offset, fuse)
+
+
+# Recovery's part of it: "(assign, empty the list, ACTIVE)"
+def end_of_activation(clump):
+    return assignments(clump) + list_emptying(clump) + [state_store(clump, ACTIVE)]
+
+
+# "Activate (RESERVED): every used target must be valid now, else 10.  State
+# ACTIVATING; each value to its target, in list order; 0 to each used target
+# word of the list, first to last; state ACTIVE."
+@request
+def activate(image, offset, fuse=LARGEST):
+    clumps = settled_clumps(image)
+    clump = clump_with_body(clumps, offset)
+    demand_state(clump, RESERVED)
+    demand_valid_list(clumps, clump)
+    stores = [state_store(clump, ACTIVATING)] + end_of_activation(clump)
+    return carry_out(image, stores, offset, fuse)
+
+
+# Recovery's part of it: "(assign, FREE)"
+def end_of_freeing(clump):
+    return assignments(clump) + [state_store(clump, FREE)]
+
+
+# "if the next clump is FREE, nbytes = both; then, if the one before is FREE, its
+# nbytes = all."
+def join_stores(clumps, clump):
+    at = clumps.index(clump)
+    stores = []
+    nbytes = clump.nbytes
+    if at + 1 < len(clumps) and clumps[at + 1].state == FREE:
+        nbytes += clumps[at + 1].nbytes
+        stores.append((clump.offset, nbytes))
+    if at > 0 and clumps[at - 1].state == FREE:
+        stores.append((clumps[at - 1].offset, clumps[at - 1].nbytes + nbytes))
+    return stores
+
+
+# "Free: RESERVED: state FREE, list dropped.  ACTIVE: every used target must be
+# valid now, else 10; state FREEING; the assignments in order; state FREE.  Then
+# [the joins]."
+@request
+def free(image, offset, fuse=LARGEST):
+    clumps = settled_clumps(image)
+    clump = clump_with_body(clumps, offset)
+    demand_state(clump, RESERVED, ACTIVE)
+    if clump.state == RESERVED:
+        stores = [state_store(clump, FREE)]
+    else:
+        demand_valid_list(clumps, clump)
+        stores = [state_store(clump, FREEING)] + end_of_freeing(clump)
+    return carry_out(image, stores + join_stores(clumps, clump), offset, fuse)
+
+
+# "finish the ACTIVATING clump (assign, empty the list, ACTIVE) or the FREEING
+# one (assign, FREE)"
+def finishing_stores(clumps):
+    for clump in clumps:
+        if clump.state == ACTIVATING:
+            return end_of_activation(clump)
+        if clump.state == FREEING:
+            return end_of_freeing(clump)
+    return []
+
+
+# "then each RESERVED to FREE, upward"
+def dropping_stores(clumps):
+    return [state_store(clump, FREE) for clump in clumps if clump.state == RESERVED]
+
+
+# "finish [..] the FREEING one (assign, FREE); then each RESERVED to FREE": what
+# is FREE by the time that the runs are joined.
+def is_free_in_the_end(clump):
+    return clump.state in (FREE, RESERVED, FREEING)
+
+
+# "run of touching FREE clumps": each as its list of clumps, two at the least,
+# since one clump alone touches none.
+def free_runs(clumps):
+    runs = [[]]
+    for clump in clumps:
+        if is_free_in_the_end(clump):
+            runs[-1].append(clump)
+        else:
+            runs.append([])
+    return [run for run in runs if len(run) >= 2]
+
+
+# "then, upward, one store for each run of touching FREE clumps, their sum to the
+# nbytes of its first."
+def joining_stores(clumps):
+    return [(run[0].offset, sum(clump.nbytes for clump in run))
+            for run in free_runs(clumps)]
+
+
+# "Recover: finish [..]; then each RESERVED to FREE, upward; then, upward, one
+# store for each run of touching FREE clumps"
+@request
+def recover(image, fuse=LARGEST):
+    clumps = sound_clumps(image)
+    stores = finishing_stores(clumps) + dropping_stores(clumps) + joining_stores(clumps)
+    return carry_out(image, stores, 0, fuse)
+
+
+# "The pool's reading: sizes and states along the walk, used entries of RESERVED
+# and ACTIVE clumps, the static area, bodies that aren't FREE."
+def reading(image):
+    clumps = sound_clumps(image)
+    sizes_and_states = [(clump.nbytes, clump.state) for clump in clumps]
+    lists = [(clump.offset, used_entries(clump)) for clump in clumps
+             if clump.state in (RESERVED, ACTIVE)]
+    bodies = [(clump.offset, bytes(image[body_of(clump):end_of(clump)]))
+              for clump in clumps if clump.state != FREE]
+    return sizes_and_states, lists, bytes(image[STATIC:STATIC_END]), bodies
+
+
+# "create, reserve, onactive, onfree, withdraw, activate, free, check, recover":
+# the nine requests by name, with how many numbers each takes.
+NUMBERS_TAKEN = {
+    "create": 0, "reserve": 1, "onactive": 3, "onfree": 3, "withdraw": 1,
+    "activate": 1, "free": 1, "check": 0, "recover": 0,
+}
+
+CARRIED_OUT_BY = {
+    "create": create, "reserve": reserve, "onactive": onactive, "onfree": onfree,
+    "withdraw": withdraw, "activate": activate, "free": free, "recover": recover,
+}
+
+
+# "A library over one lent byte slice, the pool image, with these requests".
+# Check carries no fuse, since it makes no store.
+def ask(image, name, numbers, fuse=LARGEST):
+    if name == "check":
+        return check(image)[0]
+    return CARRIED_OUT_BY[name](image, *numbers, fuse=fuse)

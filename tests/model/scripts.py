@@ -1,0 +1,373 @@
+"""The scripts of the line protocol: a name that says what is tried, and its input.
+
+The output of each is the model's.  The first body of a fresh pool is at 16448.
+"""
+
+
+# Lines of a script, each ended by a newline.
+def lines(*texts):
+    return b"".join(text.encode() + b"\n" for text in texts)
+
+
+def raw(*texts):
+    """The same for lines that are bytes already."""
+    return b"".join(text + b"\n" for text in texts)
+
+
+LARGEST = 18446744073709551615
+
+SCRIPTS = {}
+
+# ---------------------------------------------------------------------------
+# Room
+# ---------------------------------------------------------------------------
+
+# Document 01's whole case.
+SCRIPTS["whole-case"] = lines("reserve 1000", "activate 16448", "walk")
+
+SCRIPTS["empty-input"] = b""
+
+SCRIPTS["walk-of-a-fresh-pool"] = lines("walk")
+
+# Holes of several sizes: the first that fits is taken, not the best.
+SCRIPTS["fragmentation-and-first-fit"] = lines(
+    "reserve 64", "reserve 448", "reserve 64", "reserve 192", "reserve 64", "reserve 960",
+    "reserve 64", "walk", "free 16576", "free 17216", "free 17600", "walk",
+    "reserve 100", "reserve 900", "reserve 192", "reserve 1", "reserve 128", "walk",
+    "free 16448", "free 16576", "walk", "recover", "walk")
+
+# The hole is just what is asked for; then the pool itself.
+SCRIPTS["exact-fits"] = lines(
+    "reserve 192", "reserve 64", "activate 16704", "free 16448", "reserve 192", "walk",
+    "free 16448", "reserve 129", "walk", "reserve 15936", "walk", "reserve 1", "recover",
+    "walk")
+
+SCRIPTS["whole-pool-in-one"] = lines(
+    "reserve 16321", "reserve 16320", "walk", "reserve 1", "activate 16448", "walk",
+    "free 16448", "walk", "reserve 16257", "walk")
+
+# A rest of 64 is taken along, a rest of 128 is split off.
+SCRIPTS["rest-64-is-taken-along"] = lines(
+    "reserve 256", "reserve 64", "free 16448", "reserve 192", "walk", "free 16448", "walk")
+SCRIPTS["rest-128-is-split-off"] = lines(
+    "reserve 256", "reserve 64", "free 16448", "reserve 128", "walk", "reserve 64", "walk")
+SCRIPTS["rests-at-the-end-of-the-pool"] = lines(
+    "reserve 16128", "walk", "free 16448", "reserve 16192", "walk", "free 16448",
+    "reserve 16256", "walk")
+
+SCRIPTS["sizes-round-64"] = lines(
+    *("reserve %d" % (64 * count + more) for count in (1, 2, 3, 16) for more in (-1, 0, 1)),
+    "walk")
+
+SCRIPTS["no-room"] = lines(
+    "reserve 0", "reserve 16321", "reserve 16384", "reserve 32768", "reserve 16000",
+    "reserve 257", "reserve 256", "reserve 1", "walk")
+
+SCRIPTS["walk-of-many-clumps"] = lines(
+    *["reserve 1"] * 129, "walk",
+    *("free %d" % (16448 + 256 * at) for at in range(64)), "walk",
+    *("activate %d" % (16576 + 256 * at) for at in range(64)), "recover", "walk")
+
+SCRIPTS["neighbours-are-joined"] = lines(
+    *["reserve 64"] * 6, "activate 16576", "activate 16832", "free 16576", "free 16448",
+    "walk", "free 16832", "walk", "free 16704", "walk", "free 17088", "free 16960", "walk")
+
+# ---------------------------------------------------------------------------
+# Lists and targets
+# ---------------------------------------------------------------------------
+
+SCRIPTS["list-full"] = lines(
+    "reserve 64", "onactive 16448 4096 1", "onactive 16448 4096 2", "onactive 16448 4104 3",
+    "onactive 16448 4112 4", "onactive 16448 8192 4", "activate 16448",
+    "onfree 16448 4096 5", "onfree 16448 4104 6", "onfree 16448 16448 7",
+    "onfree 16448 4112 8", "free 16448", "walk")
+
+SCRIPTS["withdraw"] = lines(
+    "reserve 64", "withdraw 16448", "onactive 16448 4096 1", "withdraw 16448",
+    "withdraw 16448", "onactive 16448 4096 1", "onactive 16448 4104 2",
+    "onactive 16448 4112 3", "withdraw 16448", "onactive 16448 8184 4", "withdraw 16448",
+    "withdraw 16448", "activate 16448", "withdraw 16448", "onfree 16448 4096 9",
+    "withdraw 16448", "free 16448", "withdraw 16448", "withdraw 16449")
+
+SCRIPTS["targets-of-the-static-area"] = lines(
+    "reserve 64", "onactive 16448 4095 1", "onactive 16448 4088 1", "onactive 16448 4096 1",
+    "onactive 16448 8184 1", "onactive 16448 8185 1", "onactive 16448 8188 1",
+    "onactive 16448 8192 1", "onactive 16448 4100 1", "onactive 16448 0 1",
+    "activate 16448", "onfree 16448 8192 1", "onfree 16448 8184 1", "free 16448")
+
+SCRIPTS["targets-at-headers"] = lines(
+    "reserve 64", "reserve 64", "onactive 16448 16384 1", "onactive 16448 16392 1",
+    "onactive 16448 16440 1", "onactive 16448 16512 1", "onactive 16448 16568 1",
+    "onactive 16448 12288 1", "onactive 16448 16376 1", "walk")
+
+SCRIPTS["target-at-last-word-of-a-body"] = lines(
+    "reserve 64", "reserve 100", "onactive 16448 16504 1", "onactive 16448 16696 2",
+    "onactive 16448 16704 3", "onactive 16448 16568 3", "activate 16448",
+    "onfree 16448 16696 4", "onfree 16448 16512 4", "free 16448", "walk")
+
+SCRIPTS["target-at-last-word-of-the-image"] = lines(
+    "reserve 64", "onactive 16448 32760 1", "reserve 16192", "onactive 16448 32760 1",
+    "onactive 16448 32768 1", "onactive 16448 32764 1", "activate 16448", "walk")
+
+SCRIPTS["target-in-its-own-body"] = lines(
+    "reserve 200", "onactive 16448 16448 5", "onactive 16448 16640 6",
+    "onactive 16448 16696 7", "activate 16448", "onfree 16448 16448 8", "free 16448", "walk")
+
+SCRIPTS["target-in-a-freed-body"] = lines(
+    "reserve 64", "reserve 64", "activate 16576", "onactive 16448 16576 5", "free 16576",
+    "activate 16448", "walk", "withdraw 16448", "activate 16448", "walk")
+
+SCRIPTS["free-with-a-target-in-a-freed-body"] = lines(
+    "reserve 64", "reserve 64", "activate 16448", "activate 16576", "onfree 16448 16576 5",
+    "free 16576", "free 16448", "reserve 64", "free 16448", "walk")
+
+# A RESERVED clump drops its list, valid or not.
+SCRIPTS["free-of-reserved-drops-its-list"] = lines(
+    "reserve 64", "reserve 64", "onactive 16448 16576 5", "free 16576", "activate 16448",
+    "free 16448", "walk")
+
+SCRIPTS["states-that-do-not-allow-it"] = lines(
+    "activate 16448", "free 16448", "onactive 16448 4096 1", "onfree 16448 4096 1",
+    "withdraw 16448", "reserve 64", "onfree 16448 4096 1", "activate 16448",
+    "activate 16448", "onactive 16448 4096 1", "free 16448", "free 16448")
+
+SCRIPTS["no-clump-at-that-offset"] = lines(
+    "reserve 64", "activate 16384", "activate 16447", "activate 16449", "activate 16456",
+    "activate 16512", "activate 0", "activate 64", "activate 63", "free 32768",
+    "withdraw 4096", "onactive 16576 4096 1", "onactive 16575 1 1", "onfree 1 1 1",
+    "activate %d" % LARGEST, "free %d" % (LARGEST - 63), "walk")
+
+# ---------------------------------------------------------------------------
+# Fuses
+# ---------------------------------------------------------------------------
+
+SCRIPTS["fuse-zero"] = lines(
+    "fuse 0", "reserve 64", "walk", "reserve 64", "fuse 0", "onactive 16448 4096 1",
+    "fuse 0", "activate 16448", "walk", "fuse 0", "free 16448", "walk", "fuse 0", "recover",
+    "walk", "recover", "fuse 0", "recover", "walk")
+
+SCRIPTS["fuse-exact"] = lines(
+    "fuse 7", "reserve 64", "fuse 2", "onactive 16448 4096 1", "fuse 4", "activate 16448",
+    "fuse 2", "onfree 16448 4096 1", "fuse 1", "withdraw 16448", "fuse 3", "free 16448",
+    "fuse 7", "reserve 16192", "fuse 4", "reserve 64", "fuse 3", "recover", "walk")
+
+SCRIPTS["fuse-one-short"] = lines(
+    "fuse 6", "reserve 64", "walk", "reserve 64", "recover", "walk", "reserve 64",
+    "fuse 1", "onactive 16448 4096 1", "onactive 16448 4096 1", "fuse 0", "withdraw 16448",
+    "fuse 3", "activate 16448", "walk", "recover", "walk", "fuse 2", "free 16448", "walk",
+    "fuse 0", "recover", "recover", "walk")
+
+SCRIPTS["fuse-doubled"] = lines(
+    "fuse 0", "fuse 7", "reserve 64", "fuse 7", "fuse 0", "reserve 64", "fuse 1", "fuse 1",
+    "fuse 2", "onactive 16448 4096 1", "walk")
+
+SCRIPTS["fuse-before-walk"] = lines("fuse 3", "walk", "reserve 64", "walk", "reserve 64")
+
+SCRIPTS["fuse-before-a-bad-line"] = lines(
+    "fuse 3", "reserve", "resreve 64", "reserve 64 64", "", "reserve 64", "reserve 64", "walk")
+
+SCRIPTS["fuse-used-up-by-a-refusal"] = lines(
+    "fuse 0", "reserve 0", "reserve 64", "fuse 0", "free 1", "activate 16448", "fuse 0",
+    "reserve 20000", "reserve 64", "fuse 0", "activate 16448", "free 16448", "walk")
+
+SCRIPTS["fuse-bad-line-leaves-the-earlier"] = lines(
+    "fuse 2", "fuse", "fuse -1", "fuse 18446744073709551616", "fuse 7 7", "fuse x", "Fuse 7",
+    "fuse  7", "reserve 64", "fuse x", "reserve 64", "walk")
+
+SCRIPTS["fuse-at-the-end"] = lines("reserve 64", "fuse 0")
+
+SCRIPTS["fuse-large"] = lines(
+    "fuse 4294967296", "reserve 64", "fuse 4294967297", "reserve 64",
+    "fuse 9223372036854775808", "reserve 64", "fuse %d" % LARGEST, "reserve 64", "walk")
+
+# ---------------------------------------------------------------------------
+# Lines that aren't requests
+# ---------------------------------------------------------------------------
+
+SCRIPTS["bad-lines-empty"] = b"\n\nreserve 64\n\nwalk\n\n"
+
+SCRIPTS["bad-lines-spaces"] = raw(
+    b" ", b"  ", b" reserve 64", b"reserve 64 ", b"reserve  64", b"reserve ", b" walk",
+    b"walk ", b"recover ", b"onactive 16448  4096 1", b"onactive 16448 4096 1 ", b"fuse 0 ",
+    b"reserve 64", b"walk")
+
+SCRIPTS["bad-lines-tabs"] = raw(
+    b"\t", b"reserve\t64", b"\treserve 64", b"reserve 64\t", b"walk\t", b"reserve \t64",
+    b"reserve\x0b64", b"reserve\x0c64", b"walk")
+
+SCRIPTS["bad-lines-carriage-returns"] = raw(
+    b"reserve 64\r", b"walk\r", b"\r", b"\rwalk", b"fuse 0\r", b"recover\r",
+    b"reserve 64\rreserve 64", b"reserve 64", b"walk")
+
+SCRIPTS["bad-lines-names"] = lines(
+    "?", "help", "reserv 64", "reserved 64", "reserve64", "64", "64 reserve", "free_ 16448",
+    "persist 16448", "on 16448", "onactiv 16448 4096 1", "walks", "walkwalk", "fuse0", "fus 0",
+    "recovery", "quit", "exit", "# walk", "reserve,64", "reserve 64;walk", "walk")
+
+SCRIPTS["bad-lines-upper-case"] = lines(
+    "RESERVE 64", "Reserve 64", "reservE 64", "WALK", "Walk", "Recover", "FUSE 0", "reserve 64",
+    "ACTIVATE 16448", "walk")
+
+SCRIPTS["bad-lines-create-and-check"] = lines(
+    "create", "check", "create 32768", "check 0", "reserve 64", "create", "check", "walk")
+
+SCRIPTS["bad-lines-too-few-or-too-many"] = lines(
+    "reserve", "reserve 1 1", "onactive", "onactive 16448", "onactive 16448 4096",
+    "onactive 16448 4096 1 1", "onfree 16448 4096", "onfree 1 2 3 4", "withdraw",
+    "withdraw 1 1", "activate", "activate 16448 1", "free", "free 16448 0", "recover 0",
+    "walk 0", "walk walk", "fuse", "fuse 1 1", "walk")
+
+SCRIPTS["bad-lines-signs-and-letters"] = lines(
+    "reserve +64", "reserve -64", "reserve -0", "reserve 0x40", "reserve 40h", "reserve 1e3",
+    "reserve 64.0", "reserve 64,", "reserve 1_000", "reserve 1,000", "reserve '64'",
+    "reserve x", "reserve 6a", "reserve a6", "onactive 16448 4096 -1", "onactive 16448 +4096 1",
+    "reserve /", "reserve :", "reserve 1/", "reserve 1:", "fuse -1", "fuse +0", "walk")
+
+SCRIPTS["bad-lines-above-64-bits"] = lines(
+    "reserve 18446744073709551615", "reserve 18446744073709551616",
+    "reserve 18446744073709551617", "reserve 18446744073709551680",
+    "reserve 36893488147419103232", "reserve 99999999999999999999",
+    "reserve 100000000000000000000", "reserve 340282366920938463463374607431768211520",
+    "onactive 16448 4096 18446744073709551616", "onactive 18446744073709551616 4096 1",
+    "onactive 16448 18446744073709551616 1", "fuse 18446744073709551616", "walk")
+
+# Wrapped, these would be 64, 128 and 192: they are bad lines all the same.
+SCRIPTS["bad-lines-that-wrap-to-small"] = lines(
+    "reserve %d" % (2**64 + 64), "reserve %d" % (2**65 + 128), "reserve %d" % (2**128 + 192),
+    "reserve %d" % (10 * 2**64 + 64), "fuse %d" % 2**64, "reserve 64", "walk")
+
+SCRIPTS["leading-zeros"] = lines(
+    "reserve 064", "reserve 00000000000000000000000000000000000000000000000065",
+    "onactive 0016448 04096 00", "activate 000000000000000000016448", "fuse 00",
+    "free 016448", "reserve 00", "reserve " + "0" * 100 + "18446744073709551615",
+    "reserve " + "0" * 100 + "18446744073709551616", "walk")
+
+
+# A reserve line of so many bytes, by leading zeros.
+def reserve_line(length, size):
+    return b"reserve " + str(size).zfill(length - len("reserve ")).encode()
+
+
+SCRIPTS["lines-of-200-and-201-bytes"] = raw(
+    reserve_line(199, 64), reserve_line(200, 64), reserve_line(201, 64),
+    reserve_line(202, 64), reserve_line(200, 128), b"x" * 200, b"x" * 201, b" " * 200,
+    b" " * 201, b"walk" + b" " * 196, b"walk" + b" " * 197, b"walk")
+
+# A long line is one line: its tail isn't read as a request of its own.
+SCRIPTS["lines-much-too-long"] = raw(
+    b"x" * 400, reserve_line(401, 64), b"walk " * 60, b"x" * 200 + b"walk",
+    b"x" * 201 + b"walk", b"0" * 4095, b"0" * 4096, b"0" * 4097, b"9" * 70000,
+    b"reserve 64" + b" reserve 64" * 1000, b"walk")
+
+SCRIPTS["last-line-without-newline"] = b"reserve 64\nwalk"
+SCRIPTS["last-line-without-newline-alone"] = b"reserve 1000"
+SCRIPTS["last-line-without-newline-bad"] = b"walk\nreserve 64\r"
+SCRIPTS["last-line-without-newline-200-bytes"] = b"walk\n" + reserve_line(200, 64)
+SCRIPTS["last-line-without-newline-201-bytes"] = b"walk\n" + reserve_line(201, 64)
+SCRIPTS["last-line-without-newline-fuse"] = b"reserve 64\nfuse 0"
+
+SCRIPTS["bytes-above-127"] = raw(
+    b"\x80", b"\xff", b"reserve \xd9\xa1", b"reserve 6\xb4", b"reserve\xa064",
+    b"reserve\xc2\xa064", "réserve 64".encode(), b"walk\xff", b"\xef\xbb\xbfwalk",
+    "reserve ６４".encode(), b"r" + b"\xe5" * 199, b"r" + b"\xe5" * 200, b"walk")
+
+SCRIPTS["nul-bytes"] = raw(
+    b"\0", b"reserve 64\0", b"reserve\x0064", b"\0walk", b"walk\0", b"reserve 6\x004",
+    b"fuse 0\0", b"reserve 64", b"walk")
+
+# Requests over many buffers of input; every 7th line is bad, every 11th a fuse.
+SCRIPTS["long-input"] = raw(*(
+    b"reserve 64x" if at % 7 == 0 else b"fuse %d" % (at % 9) if at % 11 == 0
+    else (b"reserve %d" % (at % 300 + 1), b"recover", b"activate 16448", b"free 16448",
+          b"reserve %022d" % at, b"onfree 16448 4096 %d" % at)[at % 6]
+    for at in range(1, 6001)), b"walk")
+
+# ---------------------------------------------------------------------------
+# Recovery
+# ---------------------------------------------------------------------------
+
+# A clump of 128 with three entries; its activation makes 8 stores.
+LINKED = ("reserve 64", "onactive 16448 4096 16448", "onactive 16448 16448 7",
+          "onactive 16448 4096 9")
+
+# After each cut the pool is unfinished, recovered, and the clump freed again.
+SCRIPTS["recovery-of-an-activation-at-every-cut"] = lines(*(
+    line for fuse in range(10) for line in
+    (*LINKED, "fuse %d" % fuse, "activate 16448", "walk", "reserve 1", "recover", "walk",
+     "recover", "withdraw 16448", "free 16448", "recover", "walk")))
+
+# Free of an ACTIVE clump with three entries between FREE neighbours: 7 stores.
+SCRIPTS["recovery-of-a-freeing-at-every-cut"] = lines(*(
+    line for fuse in range(9) for line in
+    ("reserve 64", "reserve 128", "reserve 64", "activate 16576", "free 16448",
+     "free 16768", "onfree 16576 4096 1", "onfree 16576 16576 2", "onfree 16576 4096 3",
+     "walk", "fuse %d" % fuse, "free 16576", "walk", "reserve 1", "recover", "walk",
+     "recover", "free 16576", "recover", "walk")))
+
+SCRIPTS["recovery-of-a-reserve-at-every-cut"] = lines(*(
+    line for fuse in range(9) for line in
+    ("fuse %d" % fuse, "reserve 1000", "walk", "reserve 1", "recover", "walk")))
+
+SCRIPTS["recovery-of-reserved-clumps"] = lines(
+    "reserve 64", "reserve 128", "reserve 192", "activate 16576", "reserve 256", "walk",
+    "recover", "walk", "recover", "activate 16448", "free 16576", "walk")
+
+# A recovery that is itself cut, until it gets through.
+SCRIPTS["recovery-cut-again-and-again"] = lines(
+    "reserve 64", "reserve 64", "reserve 64", "activate 16576", "onfree 16576 4096 1",
+    "onfree 16576 4104 2", "fuse 2", "free 16576", "walk",
+    *(line for fuse in range(7) for line in ("fuse %d" % fuse, "recover", "walk")), "recover")
+
+SCRIPTS["unfinished-pool-refuses"] = lines(
+    "reserve 64", "fuse 1", "activate 16448", "walk", "reserve 0", "reserve 1",
+    "onactive 16448 4096 1", "onfree 16448 4096 1", "withdraw 16448", "activate 16448",
+    "free 16448", "activate 1", "walk", "recover", "withdraw 16448", "free 16448", "walk")
+
+SCRIPTS["touching-free-clumps-refuse"] = lines(
+    "reserve 64", "reserve 64", "fuse 1", "free 16448", "walk", "fuse 1", "free 16576", "walk",
+    "reserve 1", "free 16448", "recover", "walk", "reserve 1")
+
+# An offset from before a recovery may name a new clump.
+SCRIPTS["offset-from-before-a-recovery"] = lines(
+    "reserve 64", "recover", "activate 16448", "reserve 128", "activate 16448", "walk")
+
+# ---------------------------------------------------------------------------
+# Answers and large numbers
+# ---------------------------------------------------------------------------
+
+# The lower answer comes first where several tests hold.
+SCRIPTS["lower-answer-first"] = lines(
+    "reserve 64", "onactive 16448 4096 1", "onactive 16448 4096 1", "onactive 16448 4096 1",
+    "onactive 16448 1 1", "onfree 16448 1 1", "onactive 16449 1 1", "withdraw 16576",
+    "withdraw 16577", "activate 16576", "fuse 1", "free 16448", "onactive 16449 1 1",
+    "reserve 0", "recover", "reserve 16320", "reserve 0", "walk")
+
+SCRIPTS["the-largest-number"] = lines(
+    "fuse %d" % LARGEST, "reserve %d" % LARGEST, "reserve %d" % (LARGEST - 62),
+    "reserve %d" % (LARGEST - 63), "reserve %d" % (LARGEST - 126),
+    "reserve %d" % (LARGEST - 127), "reserve 64", "onactive 16448 %d 1" % LARGEST,
+    "onactive 16448 %d 1" % (LARGEST - 7), "onactive 16448 4096 %d" % LARGEST,
+    "onactive %d %d %d" % (LARGEST, LARGEST, LARGEST), "withdraw %d" % LARGEST,
+    "activate %d" % LARGEST, "free %d" % LARGEST, "activate 16448",
+    "onfree 16448 16504 %d" % LARGEST, "free 16448", "walk")
+
+# ---------------------------------------------------------------------------
+# A story
+# ---------------------------------------------------------------------------
+
+# A gas kiln's controller keeps its valve commands in the pool.  The burner's
+# present command (320 bytes) is in force and the static area points at it.  A
+# new command is reserved and will be linked by three pointers: the static area's
+# root (4096), the count of commands beside it (4104), and the old command's
+# pointer to its follower (16448).  The power fails in the middle of the switch.
+# The walk shows the command half in force; recovery puts it in force wholly.
+# Then the old command is retired: its freeing sets the root's second word.
+SCRIPTS["kiln"] = lines(
+    "reserve 320", "onactive 16448 4096 16448", "onactive 16448 4104 1", "activate 16448",
+    "walk",
+    "reserve 200", "onactive 16832 4096 16832", "onactive 16832 4104 2",
+    "onactive 16832 16448 16832", "walk",
+    "fuse 3", "activate 16832", "walk",
+    "recover", "walk",
+    "onfree 16448 4104 1", "fuse 1", "free 16448", "walk",
+    "recover", "walk", "recover")

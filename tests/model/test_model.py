@@ -1,0 +1,528 @@
+"""Holds the model against document 01: its numbers, worked by hand, and its rules.
+
+    python3 -m unittest discover -s tests/model
+"""
+
+import unittest
+
+import cases
+import generate
+import pool
+import program
+from build import Dice, after, clump, dusty, fresh, pool_of, with_words
+from pool import FREE, RESERVED, ACTIVATING, ACTIVE, FREEING, LARGEST
+from scripts import SCRIPTS
+
+
+# Sizes and states along the walk.
+def tiles(image):
+    return [(one.nbytes, one.state) for one in pool.walk(image)]
+
+
+# The numbers of the words in which two images differ.
+def changed_words(one, other):
+    return [at for at in range(0, len(one), 8) if one[at:at + 8] != other[at:at + 8]]
+
+
+# ---------------------------------------------------------------------------
+# "Numbers to try"
+# ---------------------------------------------------------------------------
+
+class NumbersToTry(unittest.TestCase):
+
+    # A: size 1 needs 128, 64 needs 128, 65 needs 192, 1000 needs 1088.
+    def test_a(self):
+        for size, need in ((1, 128), (64, 128), (65, 192), (1000, 1088)):
+            image = fresh(32768)
+            self.assertEqual(pool.reserve(image, size), (0, 16448, 0, 7))
+            self.assertEqual(tiles(image), [(need, RESERVED), (16384 - need, FREE)])
+
+    # B: 256, RESERVED 1088, FREE 960, 256.
+    def test_b(self):
+        image = pool_of(clump(256, ACTIVE), clump(2048, FREE), clump(256, ACTIVE))
+        self.assertEqual(pool.reserve(image, 1000), (0, 16704, 0, 7))
+        self.assertEqual(tiles(image), [(256, ACTIVE), (1088, RESERVED), (960, FREE),
+                                        (256, ACTIVE)])
+
+    # C: of 1216, split to 1088 and 128.
+    def test_c(self):
+        image = pool_of(clump(128, ACTIVE), clump(1216, FREE))
+        self.assertEqual(pool.reserve(image, 1000), (0, 16576, 0, 7))
+        self.assertEqual(tiles(image), [(128, ACTIVE), (1088, RESERVED), (128, FREE)])
+
+    # D: of 1152, all taken.
+    def test_d(self):
+        image = pool_of(clump(128, ACTIVE), clump(1152, FREE))
+        self.assertEqual(pool.reserve(image, 1000), (0, 16576, 0, 4))
+        self.assertEqual(tiles(image), [(128, ACTIVE), (1152, RESERVED)])
+
+    # E: of 1088, taken.
+    def test_e(self):
+        image = pool_of(clump(128, ACTIVE), clump(1088, FREE))
+        self.assertEqual(pool.reserve(image, 1000), (0, 16576, 0, 4))
+        self.assertEqual(tiles(image), [(128, ACTIVE), (1088, RESERVED)])
+
+    # F: of 1024, answer 5.
+    def test_f(self):
+        image = pool_of(clump(128, ACTIVE), clump(1024, FREE))
+        before = bytes(image)
+        self.assertEqual(pool.reserve(image, 1000), (5, 0, 0, 0))
+        self.assertEqual(image, before)
+
+    # G: FREE 16384: size 16320 fits, 16321 doesn't; 18446744073709551615 gets 5.
+    def test_g(self):
+        self.assertEqual(pool.reserve(fresh(32768), 16320), (0, 16448, 0, 4))
+        self.assertEqual(pool.reserve(fresh(32768), 16321), (5, 0, 0, 0))
+        self.assertEqual(pool.reserve(fresh(32768), 18446744073709551615), (5, 0, 0, 0))
+
+    def pool_of_h(self):
+        image = pool_of(clump(128, RESERVED, (4096, 7), (4096, 9)), clump(128, FREE))
+        return with_words(image, {4096: 55})
+
+    # H: activate makes 6 stores.
+    def test_h_whole(self):
+        image = self.pool_of_h()
+        self.assertEqual(pool.activate(image, 16448), (0, 16448, 0, 6))
+        self.assertEqual(pool.word(image, 4096), 9)
+        self.assertEqual(image[16400:16408] + image[16416:16424], bytes(16))
+        self.assertEqual(tiles(image), [(128, ACTIVE), (128, FREE)])
+
+    # H: cut after 2, 4096 holds 7; after recovery 9.
+    def test_h_cut_after_2(self):
+        image = self.pool_of_h()
+        self.assertEqual(pool.activate(image, 16448, fuse=2), (11, 0, 0, 2))
+        self.assertEqual(pool.word(image, 4096), 7)
+        # Two assignments, two targets emptied, one state.
+        self.assertEqual(pool.recover(image), (0, 0, 0, 5))
+        self.assertEqual(pool.word(image, 4096), 9)
+
+    # H: cut after 4, 9 stays.
+    def test_h_cut_after_4(self):
+        image = self.pool_of_h()
+        self.assertEqual(pool.activate(image, 16448, fuse=4), (11, 0, 0, 4))
+        self.assertEqual(pool.word(image, 4096), 9)
+        # The second entry is left: assigned, emptied, state.
+        self.assertEqual(pool.recover(image), (0, 0, 0, 3))
+        self.assertEqual(pool.word(image, 4096), 9)
+        self.assertEqual(tiles(image), [(128, ACTIVE), (128, FREE)])
+
+    # H: cut after 0, the clump becomes FREE and 4096 keeps its old word.
+    def test_h_cut_after_0(self):
+        image = self.pool_of_h()
+        self.assertEqual(pool.activate(image, 16448, fuse=0), (11, 0, 0, 0))
+        self.assertEqual(pool.recover(image), (0, 0, 0, 2))
+        self.assertEqual(pool.word(image, 4096), 55)
+        self.assertEqual(tiles(image), [(256, FREE)])
+
+    # I: free makes 4 stores and leaves FREE 768.
+    def test_i(self):
+        image = pool_of(clump(256, FREE), clump(256, ACTIVE), clump(256, FREE))
+        self.assertEqual(pool.free(image, 16704), (0, 16704, 0, 4))
+        self.assertEqual(tiles(image), [(768, FREE)])
+
+    # J: activate 16448 then answers 10, place 0, 0 stores.
+    def test_j(self):
+        image = pool_of(clump(128, RESERVED, (16576, 5)), clump(128, ACTIVE))
+        self.assertEqual(pool.free(image, 16576), (0, 16576, 0, 2))
+        self.assertEqual(pool.activate(image, 16448), (10, 0, 0, 0))
+
+
+# ---------------------------------------------------------------------------
+# Rules with numbers of their own
+# ---------------------------------------------------------------------------
+
+class Creation(unittest.TestCase):
+
+    # "1,033 stores", in the order of the page: each fuse adds the next word.
+    def test_order_of_stores(self):
+        offsets = ([12288] + list(range(4096, 8192, 8)) + list(range(12296, 16384, 8))
+                   + list(range(16384, 16448, 8)) + [12288])
+        self.assertEqual(len(offsets), 1033)
+        dust = bytearray(b"\xa5" * 16512)
+        self.assertEqual(pool.create(bytearray(dust)), (0, 0, 0, 1033))
+        for fuse, offset in enumerate(offsets):
+            before = after(dust, "create", fuse=fuse)
+            self.assertEqual(changed_words(before, after(dust, "create", fuse=fuse + 1)),
+                             [offset])
+
+    # "Cut after 1 to 1,032, the image is no pool (answer 1)."
+    def test_cut_creation_is_no_pool(self):
+        old = pool_of(clump(128, ACTIVE), clump(128, RESERVED))
+        for fuse in range(1, 1033):
+            image = bytearray(old)
+            self.assertEqual(pool.create(image, fuse=fuse), (11, 0, 0, fuse))
+            self.assertEqual(pool.check(image), ((1, 0, 0, 0), (0, 0, 0, 0, 0)))
+        self.assertEqual(pool.check(after(old, "create", fuse=0))[0].answer, 0)
+
+    def test_created_pool(self):
+        image = fresh(16512)
+        self.assertEqual(image[12288:12304], b"*PMEMALLOC_POOL\0")
+        self.assertEqual(pool.word(image, 12304), 16512)
+        self.assertEqual(pool.check(image), ((0, 0, 0, 0), (128, 0, 0, 0, 0)))
+
+    def test_only_the_length_matters(self):
+        for length in (0, 8, 63, 64, 12288, 16448, 16511, 16513, 16520, 65535):
+            self.assertEqual(pool.create(bytearray(length)), (1, 0, 0, 0))
+        for length in (16512, 16576, 32768, 65472, 65536):
+            self.assertEqual(pool.create(bytearray(b"\xff" * length)), (0, 0, 0, 1033))
+
+
+class Soundness(unittest.TestCase):
+
+    def assert_fault(self, image, fault, place):
+        self.assertEqual(pool.check(image), ((2, place, fault, 0), (0, 0, 0, 0, 0)))
+        self.assertEqual(pool.recover(image), (2, place, fault, 0))
+
+    # Clumps at 16384, 16512 and 16704.
+    def three(self, middle_state=RESERVED, *entries):
+        return pool_of(clump(128, ACTIVE), clump(192, middle_state, *entries),
+                       clump(128, FREE))
+
+    def test_size(self):
+        for nbytes in (0, 64, 127, 129, 136, 384, 2**63, 2**64 - 64, 2**64 - 1):
+            self.assert_fault(with_words(self.three(), {16512: nbytes}), 1, 16512)
+
+    def test_state(self):
+        for state in (5, 256, 2**32, LARGEST):
+            self.assert_fault(with_words(self.three(), {16520: state}), 2, 16512)
+
+    def test_list(self):
+        self.assert_fault(self.three(ACTIVE, (0, 1), (4096, 1)), 3, 16512)
+        self.assert_fault(self.three(RESERVED, (4096, 1), (0, 1), (4096, 1)), 3, 16512)
+        for target in (1, 4088, 4100, 8192, 16376, 16828, 16832, LARGEST):
+            self.assert_fault(self.three(RESERVED, (target, 1)), 3, 16512)
+        for target in (4096, 8184, 16384, 16824):
+            self.assertEqual(pool.check(self.three(ACTIVE, (target, 1)))[0].answer, 0)
+
+    def test_second_unfinished(self):
+        image = pool_of(clump(128, FREEING), clump(128, ACTIVE), clump(128, ACTIVATING))
+        self.assert_fault(image, 4, 16640)
+
+    def test_pending_target(self):
+        # A header word, a FREE body, past the static area.
+        for target in (16512, 16768, 8192, 4092):
+            self.assert_fault(self.three(ACTIVATING, (0, 1), (target, 1)), 5, 16512)
+        for target in (4096, 8184, 16448, 16504, 16576, 16696):
+            image = self.three(FREEING, (0, 1), (target, 1))
+            self.assertEqual(pool.check(image)[0].answer, 0)
+
+    def test_order(self):
+        # The lower clump's list comes before the higher one's size.
+        low_list = with_words(self.three(RESERVED, (1, 1)), {16704: 0})
+        self.assert_fault(low_list, 3, 16512)
+        # Any size, state or list comes before 4 and 5, 4 before 5.
+        both = pool_of(clump(128, ACTIVATING, (8, 1)), clump(128, FREEING, (8, 1)),
+                       clump(128, ACTIVE))
+        self.assert_fault(both, 4, 16512)
+        self.assert_fault(with_words(both, {16648: 9}), 2, 16640)
+
+    # "They add up to length minus 16384."
+    def test_totals(self):
+        image = pool_of(clump(128, FREE), clump(192, RESERVED), clump(256, ACTIVATING),
+                        clump(320, ACTIVE), clump(384, RESERVED), clump(448, FREE))
+        self.assertEqual(pool.check(image)[1], (576, 576, 256, 320, 0))
+        dice = Dice(7)
+        for at in range(300):
+            image = cases.sound_pool(dice, settled=at % 2 == 0)
+            answer, totals = pool.check(image)
+            self.assertEqual(answer, (0, 0, 0, 0))
+            self.assertEqual(sum(totals), len(image) - 16384)
+
+
+class Stores(unittest.TestCase):
+
+    # Free of an ACTIVE clump with three entries between FREE neighbours, word by
+    # word: "At most 7 stores."
+    def test_order_of_the_longest_free(self):
+        image = pool_of(clump(128, FREE), clump(128, ACTIVE, (4096, 1), (4104, 2), (4112, 3)),
+                        clump(128, FREE))
+        expected = [(16520, 4), (4096, 1), (4104, 2), (4112, 3), (16520, 0), (16512, 256),
+                    (16384, 384)]
+        self.assert_order(image, "free", (16576,), expected)
+
+    def test_order_of_the_longest_activation(self):
+        image = pool_of(clump(128, RESERVED, (4096, 1), (4104, 2), (4112, 3)))
+        expected = [(16392, 2), (4096, 1), (4104, 2), (4112, 3), (16400, 0), (16416, 0),
+                    (16432, 0), (16392, 3)]
+        self.assert_order(image, "activate", (16448,), expected)
+
+    def test_order_of_a_split(self):
+        image = pool_of(clump(512, FREE, (1, 1), (2, 2), (3, 3)))
+        image = with_words(image, {16520: 77})
+        expected = [(16512, 384), (16520, 0), (16400, 0), (16416, 0), (16432, 0),
+                    (16384, 128), (16392, 1)]
+        self.assert_order(image, "reserve", (64,), expected)
+
+    def test_order_of_a_recovery(self):
+        image = pool_of(clump(128, RESERVED), clump(128, FREEING, (4096, 1)),
+                        clump(128, ACTIVE), clump(128, RESERVED), clump(128, FREE))
+        expected = [(4096, 1), (16520, 0), (16392, 0), (16776, 0), (16384, 256), (16768, 256)]
+        self.assert_order(image, "recover", (), expected)
+
+    def test_order_of_an_entry(self):
+        image = pool_of(clump(128, ACTIVE, (4096, 1)))
+        self.assert_order(image, "onfree", (16448, 16504, 6), [(16424, 6), (16416, 16504)])
+
+    def assert_order(self, image, name, numbers, expected):
+        for fuse in range(len(expected)):
+            before = after(image, name, *numbers, fuse=fuse)
+            behind = after(image, name, *numbers, fuse=fuse + 1)
+            offset, value = expected[fuse]
+            self.assertEqual(changed_words(before, behind), [offset])
+            self.assertEqual(pool.word(behind, offset), value)
+        whole = pool.ask(bytearray(image), name, numbers)
+        self.assertEqual((whole.answer, whole.stores), (0, len(expected)))
+
+
+# ---------------------------------------------------------------------------
+# Rules over many random pools
+# ---------------------------------------------------------------------------
+
+# The requests whose cut leaves nothing behind.
+UNDONE_BY_A_CUT = ("reserve", "onactive", "onfree", "withdraw", "recover")
+
+
+def recovered(image):
+    return after(image, "recover")
+
+
+class OverManyPools(unittest.TestCase):
+
+    # Requests that a random sound pool doesn't refuse.
+    def accepted(self, seed, wanted):
+        dice = Dice(seed)
+        while wanted:
+            name = dice.pick(("reserve", "onactive", "onfree", "withdraw", "activate", "free",
+                              "recover"))
+            image = cases.sound_pool(dice, settled=name != "recover")
+            bodies = [pool.body_of(one) for one in pool.walk(image)]
+            numbers = cases.some_numbers(dice, image, name, bodies)
+            given = pool.ask(bytearray(image), name, numbers)
+            if given.answer == 0 and given.stores:
+                wanted -= 1
+                yield image, name, numbers, given.stores
+
+    # "After a cut and recovery, the reading equals that of recovering the image
+    # before the request, if the cut fell in reserve, onactive, onfree, withdraw
+    # or recover, or before the first store.  It equals that of recovering the
+    # finished image if one or more stores of activate or free were made."
+    def test_reading_after_a_cut(self):
+        tried = set()
+        for image, name, numbers, stores in self.accepted(11, 700):
+            undone = pool.reading(recovered(image))
+            finished = pool.reading(recovered(after(image, name, *numbers)))
+            for fuse in range(stores):
+                cut = after(image, name, *numbers, fuse=fuse)
+                expected = undone if name in UNDONE_BY_A_CUT or fuse == 0 else finished
+                self.assertEqual(pool.reading(recovered(cut)), expected)
+                tried.add((name, fuse))
+        # Each kind of request, each with its last cut.
+        for last in (("reserve", 6), ("onactive", 1), ("onfree", 1), ("withdraw", 0),
+                     ("activate", 7), ("free", 6), ("recover", 7)):
+            self.assertIn(last, tried)
+
+    # "A second recovery makes no store."
+    def test_second_recovery(self):
+        for image, name, numbers, stores in self.accepted(12, 200):
+            for fuse in range(stores + 1):
+                twice = recovered(after(image, name, *numbers, fuse=fuse))
+                before = bytes(twice)
+                self.assertEqual(pool.recover(twice, fuse=0), (0, 0, 0, 0))
+                self.assertEqual(twice, before)
+
+    # A cut recovery, recovered, leaves the same image as an uncut one.
+    def test_recovery_of_a_recovery(self):
+        for image, name, numbers, _ in self.accepted(13, 200):
+            cut = after(image, name, *numbers, fuse=1)
+            stores = pool.recover(bytearray(cut)).stores
+            for fuse in range(stores):
+                again = recovered(after(cut, "recover", fuse=fuse))
+                self.assertEqual(pool.reading(again), pool.reading(recovered(cut)))
+
+    # "Each store changes at most one aligned word", "makes the first so many",
+    # "a fuse equal to its length is enough".
+    def test_fuses(self):
+        for image, name, numbers, stores in self.accepted(14, 300):
+            whole = after(image, name, *numbers)
+            for fuse in range(stores):
+                cut = bytearray(image)
+                self.assertEqual(pool.ask(cut, name, numbers, fuse), (11, 0, 0, fuse))
+                self.assertLessEqual(
+                    len(changed_words(cut, after(image, name, *numbers, fuse=fuse + 1))), 1)
+            for fuse in (stores, stores + 1, LARGEST):
+                self.assertEqual(after(image, name, *numbers, fuse=fuse), whole)
+
+    # "Two images that differ only there get equal answers, places and counts."
+    def test_bytes_without_influence(self):
+        for image, name, numbers, _ in self.accepted(15, 300):
+            other = dusty(image, 99)
+            for asked in (name, "check", "recover"):
+                given = numbers if asked == name else ()
+                self.assertEqual(pool.ask(bytearray(image), asked, given),
+                                 pool.ask(bytearray(other), asked, given))
+
+    # Offsets 0 and 8192: "4,096 bytes each, never read or written".
+    def test_red_pages_stay(self):
+        for image, name, numbers, _ in self.accepted(16, 200):
+            behind = after(image, name, *numbers)
+            self.assertEqual(behind[:4096], image[:4096])
+            self.assertEqual(behind[8192:12288], image[8192:12288])
+
+    # Every finished request leaves a pool that is sound, and settled if it was.
+    def test_sound_afterwards(self):
+        for image, name, numbers, stores in self.accepted(17, 300):
+            for fuse in range(stores + 1):
+                behind = after(image, name, *numbers, fuse=fuse)
+                self.assertEqual(pool.check(behind)[0].answer, 0)
+            self.assertEqual(pool.reserve(behind, 0).answer, 4)
+
+
+# ---------------------------------------------------------------------------
+# The program
+# ---------------------------------------------------------------------------
+
+class TheProgram(unittest.TestCase):
+
+    def assert_output(self, data, expected):
+        self.assertEqual(program.run(data).split(b"\n"), expected.encode().split(b"\n"))
+
+    # "Whole case, input `reserve 1000`, `activate 16448`, `walk`"
+    def test_whole_case(self):
+        self.assert_output(b"reserve 1000\nactivate 16448\nwalk\n",
+                           "0 16448 7\n0 16448 2\n16384 1088 3\n17472 15296 0\n")
+
+    def test_nothing(self):
+        self.assert_output(b"", "")
+        self.assert_output(b"\n", "?\n")
+
+    def test_fuse_holds_for_one_request(self):
+        self.assert_output(b"fuse 6\nreserve 1\nrecover\nreserve 1\n",
+                           "11 0 6\n0 0 1\n0 16448 7\n")
+
+    def test_walk_and_bad_lines_use_up_no_fuse(self):
+        self.assert_output(b"fuse 0\nwalk\nnonsense\nreserve\nreserve 1\n",
+                           "16384 16384 0\n?\n?\n11 0 0\n")
+
+    def test_refusal_uses_up_the_fuse(self):
+        self.assert_output(b"fuse 0\nreserve 0\nreserve 1\n", "4 0 0\n0 16448 7\n")
+
+    def test_later_fuse_holds(self):
+        self.assert_output(b"fuse 9\nfuse 2\nreserve 1\n", "11 0 2\n")
+
+    def test_bad_fuse_line_leaves_the_earlier(self):
+        self.assert_output(b"fuse 2\nfuse 18446744073709551616\nfuse\nreserve 1\n",
+                           "?\n?\n11 0 2\n")
+
+    def test_spaces_tabs_returns(self):
+        for line in (b"", b" ", b" reserve 1", b"reserve 1 ", b"reserve  1", b"reserve\t1",
+                     b"reserve 1\r", b"reserve ", b"walk ", b"reserve\x001", b"reserve 1\xff"):
+            self.assert_output(line + b"\nwalk\n", "?\n16384 16384 0\n")
+
+    def test_names(self):
+        for line in (b"create", b"check", b"Reserve 1", b"WALK", b"walk 1", b"recover 1",
+                     b"reserve 1 1", b"onactive 1 1", b"free"):
+            self.assert_output(line + b"\n", "?\n")
+
+    def test_numbers(self):
+        for number in (b"+1", b"-1", b"0x1", b"1.0", b"18446744073709551616", b"1e1"):
+            self.assert_output(b"reserve " + number + b"\n", "?\n")
+        self.assert_output(b"reserve 18446744073709551615\n", "5 0 0\n")
+        self.assert_output(b"reserve 00000000000000000000000000001\n", "0 16448 7\n")
+
+    def test_line_length(self):
+        line = b"reserve " + b"0" * 191 + b"1"
+        self.assertEqual(len(line), 200)
+        self.assert_output(line + b"\n", "0 16448 7\n")
+        self.assert_output(line, "0 16448 7\n")
+        self.assert_output(b"reserve 0" + line[8:] + b"\n", "?\n")
+        self.assert_output(b"x" * 100000 + b"\nwalk", "?\n16384 16384 0\n")
+
+    def test_last_line_without_newline(self):
+        self.assert_output(b"reserve 1\nwalk", "0 16448 7\n16384 128 1\n16512 16256 0\n")
+
+    # The story's words in the end, followed by hand: root, count and follower
+    # are all three set by the recovery, and the count again by the freeing.
+    def test_kiln(self):
+        story = program.Program()
+        lines = program.lines_of(SCRIPTS["kiln"])
+        recovery = lines.index(b"recover")
+        for line in lines[:recovery]:
+            story.answer_line(line)
+        self.assertEqual([pool.word(story.image, at) for at in (4096, 4104, 16448)],
+                         [16832, 2, 0])
+        self.assertEqual(story.answer_line(lines[recovery]), b"0 0 7\n")
+        self.assertEqual([pool.word(story.image, at) for at in (4096, 4104, 16448)],
+                         [16832, 2, 16832])
+        for line in lines[recovery + 1:]:
+            story.answer_line(line)
+        self.assertEqual([pool.word(story.image, at) for at in (4096, 4104)], [16832, 1])
+        self.assertEqual(tiles(story.image), [(384, FREE), (320, ACTIVE), (15680, FREE)])
+
+
+# ---------------------------------------------------------------------------
+# What the generator writes
+# ---------------------------------------------------------------------------
+
+# The answers that document 01 makes possible for each request.
+POSSIBLE = {
+    "create": {0, 1, 11}, "reserve": {0, 1, 2, 3, 4, 5, 11},
+    "onactive": {0, 1, 2, 3, 6, 7, 8, 10, 11}, "onfree": {0, 1, 2, 3, 6, 7, 8, 10, 11},
+    "withdraw": {0, 1, 2, 3, 6, 7, 9, 11}, "activate": {0, 1, 2, 3, 6, 7, 10, 11},
+    "free": {0, 1, 2, 3, 6, 7, 10, 11}, "check": {0, 1, 2}, "recover": {0, 1, 2, 11}}
+
+
+class TheGenerator(unittest.TestCase):
+
+    @classmethod
+    def setUpClass(cls):
+        cls.cases = cases.all_cases()
+
+    def test_number_of_cases(self):
+        self.assertTrue(3000 <= len(self.cases) <= 4000, len(self.cases))
+        self.assertGreaterEqual(len(SCRIPTS), 24)
+
+    def test_every_answer_of_every_request(self):
+        counts = generate.histogram(self.cases)
+        for name, answers in POSSIBLE.items():
+            self.assertEqual({answer for asked, answer in counts if asked == name}, answers)
+
+    # Refusals leave the image alone; cuts make just as many stores as the fuse.
+    def test_every_case_keeps_the_rules(self):
+        for one in self.cases:
+            image = bytearray(one.image)
+            given = pool.ask(image, one.name, one.numbers, one.fuse)
+            if 1 <= given.answer <= 10:
+                self.assertEqual((image, given.stores), (one.image, 0))
+            if given.answer == 11:
+                self.assertEqual(given.stores, one.fuse)
+            self.assertEqual(given.fault != 0, given.answer == 2)
+            self.assertLessEqual(given.stores, one.fuse if one.name != "check" else 0)
+
+    # The quick checksum is the byte by byte one.
+    def test_checksum(self):
+        dice = Dice(8)
+        self.assertEqual(generate.checksum(b""), 0)
+        self.assertEqual(generate.checksum(b"\0"), 1)
+        self.assertEqual(generate.checksum(b"\0\x02"), 260)
+        for length in (1, 2, 63, 64, 65, 1000):
+            data = bytes(dice.below(3) * dice.below(2) * dice.below(128) for _ in range(length))
+            self.assertEqual(generate.checksum(data), generate.checksum_of_bytes(0, data))
+            self.assertEqual(generate.checksum(bytes(length)),
+                             generate.checksum_of_bytes(0, bytes(length)))
+
+    # A case line gives back its image.
+    def test_case_lines(self):
+        for one in self.cases[::40]:
+            fields = list(map(int, generate.case_line(one).split()))
+            length, count = fields[:2]
+            words = dict(zip(fields[2:2 + 2 * count:2], fields[3:2 + 2 * count:2]))
+            self.assertEqual(with_words(bytearray(length), words), one.image)
+            self.assertEqual(cases.REQUEST_NAMES[fields[-5]], one.name)
+            self.assertEqual(fields[-1], one.fuse)
+
+    def test_the_files_are_up_to_date(self):
+        self.assertEqual(generate.differences(generate.files_wanted()), [])
+
+
+if __name__ == "__main__":
+    unittest.main()

@@ -1,4 +1,4 @@
--- What the code holds of a session, and that it follows the input: a law for a newline and one for any other byte, and a chunk byte
+-- What the code holds of a dialogue, and that it follows the input: a law for a newline and one for any other byte, and a chunk byte
 -- by byte. Assumes nothing.
 use Prim.Native.Nat.{ℕ, _+_, _<_, _≤_}
 use mathlib.Core.Path.{_≡_, refl, sym, _∙_}
@@ -13,20 +13,20 @@ use Rattle.line.specs.Lines.{lineOf, fuseAfter}
 use Rattle.line.specs.Texts.{newline}
 use Rattle.line.specs.Gathering.{kept, Gathered, Holds, holds-start, holds-next, holds-line}
 use Rattle.bench.specs.declared.feed.Held.{Held}
-use Rattle.bench.specs.Steps.{Session, imageAfter, lineEnded, byteAfter, bytesAfter}
+use Rattle.bench.specs.Steps.{Dialogue, imageAfter, lineEnded, byteAfter, bytesAfter}
 
--- image, buffer and what is held stand for a session: of its text the buffer has as many bytes as tell what it means
-pub record Stands (img : Image) (buf : List ℕ) (h : Held) (s : Session) : Type 0 where
+-- image, buffer and what is held stand for a dialogue: of its text the buffer has as many bytes as tell what it means
+pub record Stands (img : Image) (buf : List ℕ) (h : Held) (s : Dialogue) : Type 0 where
   pub image : img ≡ s .image
   pub text : Holds kept buf (h .count) (s .text)
   pub fuse : h .fuse ≡ s .fuse
 
--- whichever session they stood for before the bytes, they stand for the one after them now
+-- whichever dialogue they stood for before the bytes, they stand for the one after them now
 pub record Follows (img : Image) (buf : List ℕ) (h : Held) (bs : List ℕ) (img′ : Image) (buf′ : List ℕ) (h′ : Held) : Type 0 where
   pub room : h′ .count ≤ kept
-  pub stands : (s : Session) → Stands img buf h s → Stands img′ buf′ h′ (bytesAfter s bs)
+  pub stands : (s : Dialogue) → Stands img buf h s → Stands img′ buf′ h′ (bytesAfter s bs)
 
--- there is always such a session: the one whose text is just what is held
+-- there is always such a dialogue: the one whose text is just what is held
 pub stands-some :
     (img buf : List ℕ) (h : Held)
     → length buf ≡ kept
@@ -37,9 +37,9 @@ stands-some img buf h e l =
     let n : length t ≡ h .count = omega (arith, length-take (h .count) buf) in
     record { image = refl; text = record { counted = omega arith; held = sym (take-all kept t (omega arith)) }; fuse = refl }
 
--- the line that is held means what the session's does
+-- the line that is held means what the dialogue's does
 pub line-held :
-    {img buf : List ℕ} {h : Held} {s : Session}
+    {img buf : List ℕ} {h : Held} {s : Dialogue}
     → Stands img buf h s
     → imageAfter img (lineOf (take (h .count) buf)) (h .fuse) ≡ lineEnded s .image
 line-held {buf = buf} {h = h} {s = s} t = rw (t .image, holds-line buf (h .count) (s .text) (t .text), t .fuse)
@@ -82,7 +82,7 @@ follows-byte img buf h b buf′ r n g =
     }
 
 -- bytes and then more
-pub bytes-append : (s : Session) (bs cs : List ℕ) → bytesAfter s (bs ++ cs) ≡ bytesAfter (bytesAfter s bs) cs
+pub bytes-append : (s : Dialogue) (bs cs : List ℕ) → bytesAfter s (bs ++ cs) ≡ bytesAfter (bytesAfter s bs) cs
 unfolding bytesAfter
 bytes-append s [] cs = refl
 bytes-append s (b ∷ bs) cs = bytes-append (byteAfter s b) bs cs

@@ -10,10 +10,10 @@ use Rattle.rules.specs.Pages.{codes}
 use Rattle.line.specs.Lines.{fields, numbers, same, named, commands, command, meaning, lineOf}
 use Rattle.line.specs.Gathering.{kept, holds-start}
 use Rattle.bench.specs.declared.feed.Held.{Held}
-use Rattle.bench.specs.Steps.{Session, imageAfter, started, lineEnded, bytesAfter}
+use Rattle.bench.specs.Steps.{Dialogue, imageAfter, started, lineEnded, bytesAfter}
 use Rattle.bench.specs.Feeding.{Stands, Follows, line-held, bytes-append}
 
--- the session after some input
+-- the dialogue after some input
 pub record Reached (img img′ : Image) (buf : List ℕ) (h : Held) : Type 0 where
   pub input : List ℕ
   pub stands : Stands img′ buf h (bytesAfter (started img) input)
@@ -42,7 +42,7 @@ reached-next {img} chunk r f =
 pub ended :
     {img img′ img″ buf : List ℕ} {h : Held}
     → Reached img img′ buf h
-    → ((s : Session) → Stands img′ buf h s → img″ ≡ lineEnded s .image)
+    → ((s : Dialogue) → Stands img′ buf h s → img″ ≡ lineEnded s .image)
     → Ended img img″
 ended {img} r f = record { input = r .input; image = f (bytesAfter (started img) (r .input)) (r .stands) }
 
@@ -51,7 +51,7 @@ empty-line : lineOf [] ≡ Bad
 unfolding codes fields numbers same named commands command meaning lineOf
 empty-line = refl
 
-pub none-held : {img buf : List ℕ} {h : Held} {s : Session} → h .count ≤ 0 → Stands img buf h s → img ≡ lineEnded s .image
+pub none-held : {img buf : List ℕ} {h : Held} {s : Dialogue} → h .count ≤ 0 → Stands img buf h s → img ≡ lineEnded s .image
 unfolding imageAfter
 none-held {h = h} l t =
     let e : h .count ≡ 0 = omega arith in

@@ -19,17 +19,17 @@ imageAfter img Walk fuse = img
 imageAfter img Bad fuse = img
 
 -- where the program stands in its input: the image, the bytes since the last newline, the fuse of the next request
-pub record Session : Type 0 where
+pub record Dialogue : Type 0 where
   pub image : Image
   pub text : List ℕ
   pub fuse : ℕ
 
 -- at the start: "the fuse is the largest 64-bit number"
-abbrev pub started : Image → Session
+abbrev pub started : Image → Dialogue
 started img = record { image = img; text = []; fuse = longest }
 
 -- the bytes since the last newline are a line
-abbrev pub lineEnded : Session → Session
+abbrev pub lineEnded : Dialogue → Dialogue
 lineEnded s =
     record {
       image = imageAfter (s .image) (lineOf (s .text)) (s .fuse);
@@ -37,13 +37,13 @@ lineEnded s =
       fuse = fuseAfter (s .fuse) (lineOf (s .text));
     }
 
-abbrev pub lengthened : Session → ℕ → Session
+abbrev pub lengthened : Dialogue → ℕ → Dialogue
 lengthened s b = record { image = s .image; text = s .text ++ (b ∷ []); fuse = s .fuse }
 
 -- a newline ends the line, and any other byte belongs to it
-unfoldable pub byteAfter : Session → ℕ → Session
+unfoldable pub byteAfter : Dialogue → ℕ → Dialogue
 byteAfter s b = cond (eqb b newline) (lineEnded s) (lengthened s b)
 
-unfoldable pub bytesAfter : Session → List ℕ → Session
+unfoldable pub bytesAfter : Dialogue → List ℕ → Dialogue
 bytesAfter s [] = s
 bytesAfter s (b ∷ bs) = bytesAfter (byteAfter s b) bs

@@ -7,7 +7,7 @@ ghost use Prim.Native.Nat.{_≤_};
 ghost use lib.ListN.{length, take};
 ghost use Rattle.line.specs.Lines.{lineOf, fuseAfter};
 ghost use Rattle.line.specs.Gathering.{kept};
-ghost use Rattle.bench.specs.Steps.{Session, imageAfter, lineEnded};
+ghost use Rattle.bench.specs.Steps.{Dialogue, imageAfter, lineEnded};
 ghost use Rattle.bench.specs.Feeding.{Stands, Follows};
 use crate::obey;
 
@@ -63,7 +63,7 @@ pub fn bytes(img: &mut [u8], buf: &mut [u8; 201], h: Held, chunk: &[u8]) -> Held
 // The end of the input: a last line that no newline ended counts if it has a byte.
 pub fn rest(img: &mut [u8], buf: &[u8; 201], h: Held)
     requires { ⌜ h .count ≤ kept ⌝ }
-    ensures { λ _. ⌜ ((s : Session) → Stands (now (img .entry)) (now (buf .entry)) h s → now (img .exit) ≡ lineEnded s .image) ⌝ }
+    ensures { λ _. ⌜ ((s : Dialogue) → Stands (now (img .entry)) (now (buf .entry)) h s → now (img .exit) ≡ lineEnded s .image) ⌝ }
 {
     if h.count > 0 {
         held_line(img, buf, h);

@@ -1,4 +1,4 @@
--- `run`: what was read so far is some input, and the session is the one after it. The measure is the turns left. Assumes nothing.
+-- `run`: what was read so far is some input, and the dialogue is the one after it. The measure is the turns left. Assumes nothing.
 use Prim.Native.Nat.{_≤_}
 use mathlib.Core.Path.{_≡_, refl, sym, _∙_}
 use native.Mathlib.Omega.{arith}

@@ -1,19 +1,19 @@
--- What a granted request tells of the image: each test before it failed. By cases on the tests; with what an answer without a store is.
+-- What answer 0 tells of the image: each test before it failed. By cases on the tests; with what an answer without a store is.
 -- Assumes nothing.
 use Prim.Native.Nat.{ℕ, _%_, _<_, _≤_}
 use mathlib.Core.Path.{_≡_, refl}
 use mathlib.Core.Bool.{Bool, true, false, not}
 use mathlib.Core.Option.{Option, some, none}
-use mathlib.Core.List.{List, []}
+use mathlib.Core.List.{[]}
 use native.Mathlib.Omega.{arith}
 use lib.Seq.{take-nil}
 use borrow.Author.Tests.{leb-true, le-ltb, eqb-true, not-false}
 use Rattle.rules.specs.declared.Answer.{Answer}
-use Rattle.rules.specs.Words.{Mem, Store}
+use Rattle.rules.specs.Words.{Mem}
 use Rattle.rules.specs.Pages.{clumpsAt, leastLength, mostLength, unit, rightLength, isPool}
 use Rattle.rules.specs.Clumps.{Tiles, walk}
 use Rattle.rules.specs.Sound.{Fault, judge, unsettled}
-use Rattle.rules.specs.Answers.{done, notPool, notSettled, answerOf, Verdict, refused, granted, test, testFault, ifSound, ifSettled}
+use Rattle.rules.specs.Answers.{done, notPool, notSettled, answerOf, Verdict, granted, test, testFault, ifSound, ifSettled}
 use Rattle.laws.specs.Searches.{and-both}
 use Rattle.laws.specs.Walks.{sound-tiles}
 
@@ -24,10 +24,6 @@ answerIs a p f = record { answer = a; place = p; fault = f; stores = 0 }
 pub granted-none : (fuse : ℕ) → answerIs 0 0 0 ≡ answerOf fuse (granted 0 [])
 unfolding answerOf
 granted-none fuse = rw (le-ltb fuse 0 (omega arith), take-nil fuse)
-
--- a refusal is no grant
-pub never-granted {ℓ} : {B : Type ℓ} {a q f p : ℕ} {st : List Store} → refused a q f ≡ granted p st → B
-never-granted e = absurd (let z : _≡_ {A = ℕ} 0 1 = cc in omega arith)
 
 pub record RightLength (n : ℕ) : Type 0 where
   pub least : leastLength ≤ n
@@ -52,15 +48,7 @@ pool-right n m e =
 pub pool-length : (n : ℕ) (m : Mem) → isPool n m ≡ true → RightLength n
 pool-length n m e = right-length n (pool-right n m e)
 
-pub test-granted : (b : Bool) (a p : ℕ) (v : Verdict) (st : List Store) → test b a v ≡ granted p st → (b ≡ false) × (v ≡ granted p st)
-test-granted true a p v st e = never-granted e
-test-granted false a p v st e = (refl, e)
-
-fault-granted : (o : Option Fault) (p : ℕ) (v : Verdict) (st : List Store) → testFault o v ≡ granted p st → (o ≡ none) × (v ≡ granted p st)
-fault-granted none p v st e = (refl, e)
-fault-granted (some f) p v st e = never-granted e
-
--- granted behind the tests 1 and 2
+-- what has passed the tests 1 and 2
 pub record Sound (n : ℕ) (m : Mem) : Type 0 where
   pub pool : isPool n m ≡ true
   pub sound : judge n m ≡ none
@@ -69,24 +57,7 @@ pub record Sound (n : ℕ) (m : Mem) : Type 0 where
 pub pool-tiles : (n : ℕ) (m : Mem) → Sound n m → Tiles clumpsAt (walk n m) n
 pool-tiles n m s = sound-tiles n m (omega (arith, pool-length n m (s .pool) .least)) (s .sound)
 
-pub sound-granted : (n : ℕ) (m : Mem) (p : ℕ) (v : Verdict) (st : List Store) → ifSound n m v ≡ granted p st → Sound n m × (v ≡ granted p st)
-unfolding ifSound
-sound-granted n m p v st e =
-    let a = test-granted (not (isPool n m)) 1 p _ st e in
-    let b = fault-granted (judge n m) p v st (a .1) in
-    (record { pool = not-false _ (a .0); sound = b .0 }, b .1)
-
--- granted behind the tests 1, 2 and 3
-pub settled-granted :
-    (n : ℕ) (m : Mem) (p : ℕ) (v : Verdict) (st : List Store)
-    → ifSettled n m v ≡ granted p st → Sound n m × (unsettled (walk n m) ≡ false) × (v ≡ granted p st)
-unfolding ifSettled
-settled-granted n m p v st e =
-    let a = sound-granted n m p _ st e in
-    let b = test-granted (unsettled (walk n m)) 3 p v st (a .1) in
-    (a .0, b .0, b .1)
-
--- answer 0 tells as much, also under a fuse
+-- answer 0 tells that each test failed, whatever the fuse
 pub done-test : (b : Bool) (a fuse : ℕ) (v : Verdict) → 0 < a → answerOf fuse (test b a v) .answer ≡ done → (b ≡ false) × (answerOf fuse v .answer ≡ done)
 unfolding answerOf
 done-test true a fuse v l e = absurd (omega arith)

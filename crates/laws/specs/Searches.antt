@@ -1,6 +1,6 @@
 -- Laws of the rules' searches, choices and tests on lists, each by induction on the list. Assumes nothing.
 use mathlib.Core.Path.{_≡_, refl, sym, ap, _∙_, subst}
-use mathlib.Core.Bool.{Bool, true, false, cond, _&&_, _||_, or-true}
+use mathlib.Core.Bool.{Bool, true, false, cond, _&&_, _||_}
 use mathlib.Core.Option.{Option, some, none}
 use mathlib.Core.List.{List, [], _∷_, _++_, map}
 use Prim.Native.Nat.{ℕ, zero, suc}
@@ -149,15 +149,6 @@ module _ {A : Type 0} where
   unfolding any
   none-any p [] e = refl
   none-any p (x ∷ xs) e = rw (e .0) (none-any p xs (e .1))
-
-  pub any-implies : (p q : A → Bool) (xs : List A) → ((x : A) → p x ≡ true → q x ≡ true) → any p xs ≡ true → any q xs ≡ true
-  unfolding any
-  any-implies p q [] f e = e
-  any-implies p q (x ∷ xs) f e = go (p x) refl e (any-implies p q xs f)
-    where
-      go : (b : Bool) → p x ≡ b → (b || any p xs) ≡ true → (any p xs ≡ true → any q xs ≡ true) → (q x || any q xs) ≡ true
-      go true i e ih = rw (f x i)
-      go false i e ih = rw (ih e) (or-true (q x))
 
   pub any-same : (p q : A → Bool) (xs : List A) → Each (λ x. p x ≡ q x) xs → any p xs ≡ any q xs
   unfolding any

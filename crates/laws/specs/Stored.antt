@@ -9,7 +9,7 @@ use native.Mathlib.Omega.{arith}
 use Rattle.rules.specs.Lists.{Each}
 use Rattle.rules.specs.Words.{Mem, Store, upd, after}
 use Rattle.rules.specs.Pages.{clumpsAt}
-use Rattle.rules.specs.Clumps.{Head, stateAt, Tiles, FREEING}
+use Rattle.rules.specs.Clumps.{Head, stateAt, Tiles}
 use Rattle.rules.specs.Sound.{isValid}
 use Rattle.word.specs.Memory.{upd-same, upd-other}
 use Rattle.laws.specs.Tilings.{tiles-le, tiles-split}
@@ -79,10 +79,6 @@ reads-state m w a b p h q t r =
       upd-same m i w,
       reads-upd m i w q (clear-below i (s .0 + h .nbytes) b q (s .2 .1) (omega (arith, s .2 .0 .here, s .2 .0 .least))) (rh .2),
     )
-
-pub tiles-state : (w a b : ℕ) (p : List Head) (h : Head) (q : List Head) → w ≤ FREEING → Tiles a (p ++ (h ∷ q)) b → Tiles a (p ++ (withState h w ∷ q)) b
-tiles-state w a b [] h q k t = (record { here = t .0 .here; least = t .0 .least; whole = t .0 .whole; known = k }, t .1)
-tiles-state w a b (g ∷ p) h q k t = (t .0, tiles-state w (a + g .nbytes) b p h q k (t .1))
 
 -- a byte that lies in no header is in no size or state word
 off-clear : (i : ℕ) (hs : List Head) → Each (Off i) hs → Clear i hs

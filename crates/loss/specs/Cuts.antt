@@ -15,11 +15,6 @@ module _ (P : Mem → Type 0) where
   every-start m [] e = e
   every-start m (s ∷ st) e = e .0
 
-  pub every-end : (m : Mem) (st : List Store) → Every P m st → P (after m st)
-  unfolding after
-  every-end m [] e = e
-  every-end m (s ∷ st) e = every-end (upd m (s .to) (s .word)) st (e .1)
-
   -- a cut after k stores
   pub every-cut : (m : Mem) (st : List Store) (k : ℕ) → Every P m st → P (after m (take k st))
   unfolding after
@@ -38,8 +33,3 @@ module _ (P : Mem → Type 0) where
   unfolding after
   cuts-every m [] f = f 0
   cuts-every m (s ∷ st) f = (f 0, cuts-every (upd m (s .to) (s .word)) st (λ k. f (suc k)))
-
--- one statement for another
-pub every-map : (P Q : Mem → Type 0) (m : Mem) (st : List Store) → ((x : Mem) → P x → Q x) → Every P m st → Every Q m st
-every-map P Q m [] f e = f m e
-every-map P Q m (s ∷ st) f e = (f m (e .0), every-map P Q (upd m (s .to) (s .word)) st f (e .1))

@@ -5,7 +5,6 @@ use mathlib.Core.Path.{_≡_, refl, sym, ap, _∙_}
 use mathlib.Core.Bool.{Bool, true, false, not}
 use mathlib.Core.Option.{Option, some, none}
 use mathlib.Core.List.{List, []}
-use native.Mathlib.Omega.{arith}
 use lib.ListN.{length, take}
 use lib.Seq.{take-nil}
 use Rattle.rules.specs.declared.Answer.{Answer}
@@ -17,7 +16,7 @@ use Rattle.rules.specs.Sound.{Fault, judge, unsettled}
 use Rattle.rules.specs.Answers.{Verdict, refused, granted, refuse, noClump, test, testFault, notPool, notSettled, ifSound, ifSettled, storesOf, answerAt, answerOf}
 use Rattle.rules.specs.Requests.{verdictOn, Does, finder, found}
 use Rattle.rules.specs.Reading.{clumpsOf, Tiled}
-use Rattle.laws.specs.Pools.{answerIs, granted-none, Sound, RightLength, pool-length, pool-tiles}
+use Rattle.laws.specs.Pools.{answerIs, granted-none, done-settled, Sound, RightLength, pool-length, pool-tiles}
 use Rattle.word.specs.declared.Power.{Power}
 use Rattle.word.specs.Runs.{full, Ran, ran-answer}
 
@@ -78,23 +77,9 @@ module _ (img : Image) (r : Answer) (e : (fuse : ℕ) → r ≡ answerOf fuse (i
 
   -- what answer 0 tells
   settled : r .answer ≡ 0 → Sound (length img) (mem img) × (unsettled (walk (length img) (mem img)) ≡ false)
-  unfolding ifSettled ifSound answerOf
   settled z =
-      go (isPool (length img) (mem img)) refl (judge (length img) (mem img)) refl (unsettled (walk (length img) (mem img))) refl (e 0)
-    where
-      go :
-          (t : Bool)
-          → isPool (length img) (mem img) ≡ t
-          → (o : Option Fault)
-          → judge (length img) (mem img) ≡ o
-          → (u : Bool)
-          → unsettled (walk (length img) (mem img)) ≡ u
-          → r ≡ answerOf 0 (test (not t) notPool (testFault o (test u notSettled (granted 0 []))))
-          → Sound (length img) (mem img) × (unsettled (walk (length img) (mem img)) ≡ false)
-      go true p none q false s f = (record { pool = p; sound = q }, s)
-      go true p none q true s f = absurd (omega (arith, ap (λ (a : Answer). a .answer) f))
-      go true p (some x) q u s f = absurd (omega (arith, ap (λ (a : Answer). a .answer) f))
-      go false p o q u s f = absurd (omega (arith, ap (λ (a : Answer). a .answer) f))
+      let x = done-settled (length img) (mem img) 0 (granted 0 []) (ap (λ (a : Answer). a .answer) (sym (e 0)) ∙ z) in
+      (x .0, x .1)
 
   pub settled-sound : r .answer ≡ 0 → Sound (length img) (mem img)
   settled-sound z = settled z .0

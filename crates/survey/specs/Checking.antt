@@ -35,10 +35,6 @@ pub record Checks (img : Image) (r : Checked) : Type 0 where
 abbrev pub unsettledFrom : Bool → List Head → Bool
 unsettledFrom b hs = any isPending hs || (b && startsFree hs || touching hs)
 
-pub unsettled-start : (hs : List Head) → unsettledFrom false hs ≡ unsettled hs
-unfolding unsettled
-unsettled-start hs = refl
-
 pub unsettled-end : (b : Bool) → unsettledFrom b [] ≡ false
 unfolding any touching
 unsettled-end true = refl

@@ -2,6 +2,7 @@
 -- by byte. Assumes nothing.
 use Prim.Native.Nat.{ℕ, _+_, _<_, _≤_}
 use mathlib.Core.Path.{_≡_, refl, sym, _∙_}
+use mathlib.Core.Bool.{Bool, true}
 use mathlib.Core.List.{List, [], _∷_, _++_}
 use native.Mathlib.Omega.{arith}
 use native.Mathlib.Numerals.{add-one}
@@ -10,7 +11,7 @@ use lib.ListN.{length, take, getD, length-take}
 use lib.Seq.{take-all, take-suc}
 use Rattle.rules.specs.Words.{Image}
 use Rattle.line.specs.Lines.{lineOf, fuseAfter}
-use Rattle.line.specs.Texts.{newline}
+use Rattle.text.specs.Texts.{newline}
 use Rattle.line.specs.Gathering.{kept, Gathered, Holds, holds-start, holds-next, holds-line}
 use Rattle.bench.specs.declared.feed.Held.{Held}
 use Rattle.bench.specs.Steps.{Dialogue, imageAfter, lineEnded, byteAfter, bytesAfter}
@@ -25,6 +26,12 @@ pub record Stands (img : Image) (buf : List ℕ) (h : Held) (s : Dialogue) : Typ
 pub record Follows (img : Image) (buf : List ℕ) (h : Held) (bs : List ℕ) (img′ : Image) (buf′ : List ℕ) (h′ : Held) : Type 0 where
   pub room : h′ .count ≤ kept
   pub stands : (s : Dialogue) → Stands img buf h s → Stands img′ buf′ h′ (bytesAfter s bs)
+
+-- a chunk was followed to its end, or up to where a write failed
+pub record Fed (img : Image) (buf : List ℕ) (h : Held) (chunk : List ℕ) (img′ : Image) (buf′ : List ℕ) (h′ : Held) : Type 0 where
+  pub taken : ℕ
+  pub follows : Follows img buf h (take taken chunk) img′ buf′ h′
+  pub whole : h′ .said ≡ true → taken ≡ length chunk
 
 -- there is always such a dialogue: the one whose text is just what is held
 pub stands-some :
@@ -46,13 +53,13 @@ line-held {buf = buf} {h = h} {s = s} t = rw (t .image, holds-line buf (h .count
 
 -- a newline: r is the fuse that the line leaves
 pub follows-newline :
-    (img buf : List ℕ) (h : Held) (b : ℕ) (img′ : Image) (r : ℕ)
+    (img buf : List ℕ) (h : Held) (b : ℕ) (img′ : Image) (r : ℕ) (said : Bool)
     → b ≡ newline
     → img′ ≡ imageAfter img (lineOf (take (h .count) buf)) (h .fuse)
     → r ≡ fuseAfter (h .fuse) (lineOf (take (h .count) buf))
-    → Follows img buf h (b ∷ []) img′ buf (record { count = 0; fuse = r })
+    → Follows img buf h (b ∷ []) img′ buf (record { count = 0; fuse = r; said = said })
 unfolding bytesAfter byteAfter
-follows-newline img buf h b img′ r e p q =
+follows-newline img buf h b img′ r said e p q =
     record {
       room = omega arith;
       stands =
@@ -70,7 +77,7 @@ pub follows-byte :
     (img buf : List ℕ) (h : Held) (b : ℕ) (buf′ : List ℕ) (r : ℕ)
     → (b ≡ newline → ⊥)
     → Gathered kept buf (h .count) b buf′ r
-    → Follows img buf h (b ∷ []) img buf′ (record { count = r; fuse = h .fuse })
+    → Follows img buf h (b ∷ []) img buf′ (record { count = r; fuse = h .fuse; said = h .said })
 unfolding bytesAfter byteAfter
 follows-byte img buf h b buf′ r n g =
     record {

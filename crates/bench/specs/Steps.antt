@@ -9,7 +9,7 @@ use Rattle.rules.specs.Requests.{cut}
 use Rattle.line.specs.declared.Line.{Line}
 use Rattle.line.specs.declared.Line.the-variants.{Ask, Fuse, Walk, Bad}
 use Rattle.line.specs.Lines.{lineOf, fuseAfter}
-use Rattle.line.specs.Texts.{newline}
+use Rattle.text.specs.Texts.{newline}
 
 -- the image after a line: a request stores as far as its fuse lasts, and no other line stores
 unfoldable pub imageAfter : Image → Line → ℕ → Image

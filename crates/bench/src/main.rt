@@ -1,23 +1,23 @@
 // The program of document 01: a pool of 32,768 bytes, requests from standard input, answers on standard output.
-// This file reads; `feed` gathers the bytes into lines, `obey` does what a line says, `show` prints.
-// Assumes of `libc::read` and `libc::write` what the kit says of them, which is how many bytes they move. Which bytes those are no
-// contract can say, so that what is read and what is printed is seen in the code and in the file `stdout`. A read that fails counts
-// as the end of the input, and a write that fails is passed over.
+// This file reads; `feed` gathers the bytes into lines, `obey` does what a line says, `show` has what it prints, and `say` writes it.
+// Which bytes are read and written no contract can say: that is seen in the code and in the file `stdout`. Where a read or a write
+// fails the program ends, and `streams` tells why in one line on standard error; a read that fails is not the end of the input.
 ghost use Rattle.io.specs.Counts.{Counts};
 ghost use Rattle.bench.specs.Inputs.{Ended};
 use feed::Held;
 use libc::STDIN_FILENO;
+use streams::Got;
 
 mod feed;
 mod obey;
+mod say;
 mod show;
 
-// Reads once, and answers with how many bytes came: 0 at the end of the input.
-fn read_some(chunk: &mut [u8]) -> usize
-    ensures { λ r. ⌜ Counts r (now (chunk .exit)) ⌝ }
+// Reads once.
+fn read_some(chunk: &mut [u8]) -> Got
+    ensures { λ r. ⌜ Counts (r .count) (now (chunk .exit)) ⌝ }
 {
-    let got = libc::read(STDIN_FILENO, chunk);
-    io::count(got, chunk)
+    streams::read_some(STDIN_FILENO, b"standard input", chunk)
 }
 
 // The whole input, a chunk at a time. A proved loop has to end, and nothing says that the input does, so that it counts its turns
@@ -30,14 +30,22 @@ fn run(img: &mut [u8])
     let mut held = Held {
         count: 0,
         fuse: u64::MAX,
+        said: true,
     };
     let mut turns = u64::MAX;
     while turns > 0 {
-        let n = read_some(&mut chunk);
+        let got = read_some(&mut chunk);
+        if got.failed {
+            return;
+        }
+        let n = got.count;
         if n == 0 {
             break;
         }
         held = feed::bytes(img, &mut buf, held, &chunk[..n]);
+        if !held.said {
+            return;
+        }
         turns -= 1;
     }
     feed::rest(img, &buf, held);

@@ -10,7 +10,8 @@ use Rattle.line.specs.declared.Line.{Line}
 use Rattle.line.specs.declared.Line.the-variants.{Ask, Fuse, Walk, Bad}
 use Rattle.rules.specs.Pages.{codes}
 use Rattle.line.specs.Lines.{fields, isDigit, valueFrom, number, numbers, same, named, commands, command, meaning, lineOf, fuseAfter}
-use Rattle.line.specs.Texts.{digits, decimal, threeText, replyText, clumpText, badText}
+use Rattle.text.specs.Texts.{digits, decimal}
+use Rattle.line.specs.Texts.{threeText, replyText, clumpText, badText}
 
 abbrev pub lineFor : String → Line
 lineFor s = lineOf (codes s)
@@ -45,8 +46,6 @@ Examples =
     -- lines of 200 and of 201 bytes
     × ((padded 191 ∷ padded 192 ∷ []) ≡ Ask (Reserve 1) ∷ Bad ∷ [])
     -- texts
-    × (map decimal (0 ∷ 9 ∷ 10 ∷ 16448 ∷ 18446744073709551615 ∷ [])
-    ≡ codes "0" ∷ codes "9" ∷ codes "10" ∷ codes "16448" ∷ codes "18446744073709551615" ∷ [])
     × ((replyText 0 16448 7 ∷ clumpText 17472 15296 0 ∷ badText ∷ []) ≡ codes "0 16448 7\n" ∷ codes "17472 15296 0\n" ∷ codes "?\n" ∷ [])
     -- fuses: held over `walk` and a bad line, the later of two, used up by a request
     × (map (fuseFrom longest) (("fuse 3" ∷ "walk" ∷ "what" ∷ []) ∷ ("fuse 3" ∷ "fuse 5" ∷ []) ∷ ("fuse 3" ∷ "free 0" ∷ []) ∷ ("fuse 3" ∷ "fuse x" ∷ []) ∷ [])
@@ -54,4 +53,4 @@ Examples =
 
 examples : Examples
 unfolding codes fields isDigit valueFrom number numbers same named commands command meaning lineOf fuseAfter digits decimal threeText badText
-examples = (refl, refl, refl, refl, refl, refl, refl, refl, refl, refl)
+examples = (refl, refl, refl, refl, refl, refl, refl, refl, refl)

@@ -11,7 +11,8 @@ use lib.Dec.{eqb}
 use lib.ListN.{length, take, drop, length-drop}
 use lib.Seq.{take-all}
 use borrow.Author.Tests.{eqb-true}
-use Rattle.line.specs.Lines.{space, fields, isDigit, valueFrom, number}
+use Rattle.text.specs.Texts.{space}
+use Rattle.line.specs.Lines.{fields, isDigit, valueFrom, number}
 use Rattle.line.specs.Forms.{spaceAt}
 use Rattle.line.specs.Numbers.{value-stops, value-goes}
 

@@ -6,7 +6,7 @@ use mathlib.Core.List.{List, [], _∷_}
 use lib.Dec.{eqb}
 use Rattle.line.specs.declared.Number.{Number}
 use Rattle.line.specs.declared.Number.the-variants.{Is, Not}
-use Rattle.line.specs.Lines.{space}
+use Rattle.text.specs.Texts.{space}
 
 -- the number of a field, if it is one
 abbrev pub numberIn : Option ℕ → Number

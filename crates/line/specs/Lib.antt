@@ -9,6 +9,4 @@ pub mod Numbers
 pub mod Fields
 pub mod Meanings
 pub mod Gathering
-pub mod Decimals
-pub mod Writing
 pub mod Determined

@@ -10,14 +10,11 @@ use Rattle.rules.specs.Words.{wordValues}
 use Rattle.rules.specs.Pages.{codes}
 use Rattle.rules.specs.Cases.{longest}
 use Rattle.rules.specs.declared.Request.the-variants.{Reserve, Onactive, Onfree, Withdraw, Activate, Free, Recover}
+use Rattle.text.specs.Texts.{space, zeroDigit}
 use Rattle.line.specs.declared.Line.{Line}
 use Rattle.line.specs.declared.Line.the-variants.{Ask, Fuse, Walk, Bad}
 
--- "Fields are parted by one space."
-abbrev pub space : ℕ
-space = 32
-
--- a byte before the fields that follow it: a space ends a field, any other byte belongs to the first of them
+-- "Fields are parted by one space." A byte before the fields that follow it: a space ends a field, any other byte belongs to the first of them
 abbrev pub parted : Bool → ℕ → List (List ℕ) → List (List ℕ)
 parted true b fs = [] ∷ fs
 parted false b [] = (b ∷ []) ∷ []
@@ -29,9 +26,6 @@ fields [] = [] ∷ []
 fields (b ∷ bs) = parted (eqb b space) b (fields bs)
 
 -- "Numbers are digits only."
-abbrev pub zeroDigit : ℕ
-zeroDigit = 48
-
 unfoldable pub isDigit : ℕ → Bool
 isDigit b = leb zeroDigit b && leb b 57
 

@@ -9,10 +9,11 @@ use lib.Dec.{leb}
 use lib.ListN.{length}
 use borrow.Author.Tests.{le-ltb, lt-ltb, leb-true}
 use Rattle.rules.specs.Words.{wordValues}
+use Rattle.text.specs.Texts.{zeroDigit}
 use Rattle.line.specs.declared.Number.{Number}
 use Rattle.line.specs.declared.Number.the-variants.{Is, Not}
 use Rattle.line.specs.Forms.{numberIn}
-use Rattle.line.specs.Lines.{zeroDigit, isDigit, valueFrom, inWord, number}
+use Rattle.line.specs.Lines.{isDigit, valueFrom, inWord, number}
 
 -- a field that is not empty is judged by its value
 pub number-value : (s : List ℕ) → (length s ≡ 0 → ⊥) → inWord (valueFrom 0 s) ≡ number s

@@ -1,26 +1,12 @@
 -- How a reply is printed (01, "The program"), as bytes. Assumes nothing.
-use Prim.Native.Nat.{ℕ, zero, suc, _+_, _/_, _%_}
-use mathlib.Core.Bool.{true, false}
+use Prim.Native.Nat.{ℕ}
 use mathlib.Core.List.{List, [], _∷_, _++_}
-use lib.Dec.{ltb}
 use Rattle.rules.specs.Pages.{codes}
-use Rattle.line.specs.Lines.{space, zeroDigit}
-
--- the decimal digits of n, the most significant first, where k is at least n: no zeros in front, and 0 is one digit
-unfoldable pub digits : ℕ → ℕ → List ℕ
-digits zero n = (zeroDigit + n) ∷ []
-digits (suc k) n =
-    elim (ltb n 10) [ true ↦ (zeroDigit + n) ∷ [] | false ↦ digits k (n / 10) ++ ((zeroDigit + n % 10) ∷ []) ]
-
-unfoldable pub decimal : ℕ → List ℕ
-decimal n = digits n n
-
-abbrev pub newline : ℕ
-newline = 10
+use Rattle.text.specs.Texts.{space, newline, field}
 
 -- "Fields are parted by one space": three numbers on a line
 unfoldable pub threeText : ℕ → ℕ → ℕ → List ℕ
-threeText a b c = decimal a ++ (space ∷ (decimal b ++ (space ∷ (decimal c ++ (newline ∷ [])))))
+threeText a b c = field a space ++ (field b space ++ field c newline)
 
 -- "A request prints answer, place and stores"
 abbrev pub replyText : ℕ → ℕ → ℕ → List ℕ
@@ -34,3 +20,10 @@ clumpText at nbytes state = threeText at nbytes state
 unfoldable pub badText : List ℕ
 unfolding codes
 badText = codes "?" ++ (newline ∷ [])
+
+-- how long these can be: three words of 20 digits at most, with a byte behind each; and a byte and the line's end
+abbrev pub threeBytes : ℕ
+threeBytes = 63
+
+abbrev pub badBytes : ℕ
+badBytes = 2

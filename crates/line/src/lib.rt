@@ -1,5 +1,5 @@
 // What a line of the program's input means: it is gathered byte by byte, read, and leaves a fuse for the next request.
-// `text` has how a reply is printed. Nothing here reads input or writes output.
+// `reply` has how a reply is printed. Nothing here reads input or writes output.
 ghost use mathlib.Core.Path.{_≡_};
 ghost use mathlib.Core.Option.{some};
 ghost use mathlib.Core.List.{[], _∷_};
@@ -9,10 +9,12 @@ ghost use Rattle.line.specs.Lines.{fields, isDigit, number, followed, nu
 ghost use Rattle.line.specs.Forms.{spaceAt, numberIn};
 ghost use Rattle.line.specs.Gathering.{kept, Gathered};
 use rules::Request;
+use text::SPACE;
 
-mod text;
+mod reply;
 
-pub use text::reply;
+pub use reply::question;
+pub use reply::three;
 
 // What a line asks for: a request, a fuse for the next one, a walk, or nothing, as it is no line of the program's.
 pub enum Line {
@@ -27,8 +29,6 @@ enum Number {
     Is(u64),
     Not,
 }
-
-const SPACE: u8 = 32;
 
 const LARGEST: u64 = 18446744073709551615;
 

@@ -1,6 +1,7 @@
 -- `is_digit`: each return by the tests that led there. Assumes nothing.
 use borrow.Author.Tests.{lt-leb, le-leb}
-use Rattle.line.specs.Lines.{zeroDigit, isDigit}
+use Rattle.text.specs.Texts.{zeroDigit}
+use Rattle.line.specs.Lines.{isDigit}
 use Rattle.line.proofs.is_digit.Statement.{statement}
 use Rattle.line.proofs.is_digit.Tie as tie
 

@@ -6,7 +6,8 @@ use native.Mathlib.Omega.{arith}
 use lib.ListN.{length, getD}
 use borrow.Author.Tests.{not-true, not-false}
 use Rattle.rules.specs.Words.{wordValues}
-use Rattle.line.specs.Lines.{zeroDigit, isDigit, valueFrom, inWord, number}
+use Rattle.text.specs.Texts.{zeroDigit}
+use Rattle.line.specs.Lines.{isDigit, valueFrom, inWord, number}
 use Rattle.line.specs.Forms.{numberIn}
 use Rattle.line.specs.Scans.{Scan, scan-start, scan-end, scan-hit, scan-move}
 use Rattle.line.specs.Numbers.{number-value, number-empty, digit-range, value-done, value-stops, value-goes, value-past}

@@ -13,7 +13,7 @@ same-length c = search needs
 returns : tie.Need-returns
 returns c =
     let l = c .before .before .held-line in
-    follows-newline _ _ _ _ _ _ (search needs) (l .ensures .0) (l .ensures .1)
+    follows-newline _ _ _ _ _ _ _ (c .before .before .before .before .before .before .if1 .taken) (l .ensures .0) (l .ensures .1)
 
 gather-requires : tie.Need-gather-requires
 gather-requires c κs = search needs

@@ -10,8 +10,8 @@ enum-known-l c = search needs
 ask-requires : tie.Need-ask-requires
 ask-requires c κs = search needs
 
-three-requires : tie.Need-three-requires
-three-requires c κs = search needs
+reply-requires : tie.Need-reply-requires
+reply-requires c κs = search needs
 
 enum-told : tie.Need-enum-told
 enum-told c = search needs
@@ -57,7 +57,7 @@ obey-spec =
     (tie.spec
     enum-known-l
     ask-requires
-    three-requires
+    reply-requires
     enum-told
     enum-told-2
     clumps-requires

@@ -1,61 +1,68 @@
--- `clumps`: the loop stands at a word as long as the end is not reached. The measure is what is left of the image. Assumes nothing.
-use Prim.Native.Nat.{ℕ, _<_, _%_, _-_}
-use mathlib.Core.Path.{_≡_}
-use mathlib.Core.List.{List}
+-- `clumps`: the loop stands where `Filling` says. The measure is what is left of the image. Assumes nothing.
+use Prim.Native.Nat.{_+_, _-_, _<_, _≤_}
+use mathlib.Core.Path.{sym, _∙_}
 use native.Mathlib.Omega.{arith}
 use lib.ListN.{length}
-use Rattle.rules.specs.Words.{wordBytes}
-use Rattle.bench.specs.Shown.{onward-on}
+use Rattle.rules.specs.Words.{mem}
+use Rattle.rules.specs.Clumps.{headerBytes}
+use Rattle.line.specs.Texts.{threeBytes}
+use Rattle.bench.specs.Shown.{room}
+use Rattle.bench.specs.Parts.{Filling, filling-start, filling-goes, filling-next, filling-end}
 use Rattle.bench.proofs.show.clumps.Statement.{statement}
 use Rattle.bench.proofs.show.clumps.Tie as tie
 
 abbrev Inv-loop : tie.InvT-loop
-Inv-loop img at₀ at = at < length img → at % wordBytes ≡ 0
+Inv-loop img out₀ from at₀ count₀ out at count = Filling (length img) (mem img) from out at count
 
 abbrev μ-loop : tie.MeasureT-loop
-μ-loop img at₀ at = length img - at
+μ-loop img out₀ from at₀ count₀ out at count = length img - at
 
 loop-holds : tie.Need-loop-holds Inv-loop μ-loop
-loop-holds c = omega arith
+loop-holds c = filling-start _ _ _ _ (c .before .pre)
 
-sub-if1 : tie.Need-sub-if1 Inv-loop μ-loop
-sub-if1 c = omega arith
+one-more-requires : tie.Need-one-more-requires Inv-loop μ-loop
+one-more-requires c κs = tt
 
-returns : tie.Need-returns Inv-loop μ-loop
-returns c = tt
+-- what the loop's test has told
+goes :
+    (c : tie.Then1 Inv-loop μ-loop)
+    → (c .before .before .loop .at + headerBytes ≤ length (c .before .before .before .before .args .img .now))
+    × (c .before .before .loop .count + threeBytes ≤ room)
+goes c = filling-goes _ _ _ (c .before .one-more .ensures) (c .if1 .taken)
 
 read-requires : tie.Need-read-requires Inv-loop μ-loop
-read-requires c κs = (omega arith, c .before .before .loop .inv (omega arith))
+read-requires c κs = (goes c .0, c .before .before .loop .inv .even (omega (arith, goes c)))
 
 three-requires : tie.Need-three-requires Inv-loop μ-loop
-three-requires c κs = tt
+three-requires c κs = omega (arith, goes (c .before .before))
 
 behind-requires : tie.Need-behind-requires Inv-loop μ-loop
-behind-requires c κs = omega arith
-
--- the image, and where the walk stands in it
-abbrev image : tie.After-behind Inv-loop μ-loop → List ℕ
-image c = c .before .before .before .before .before .before .before .args .img .now
-
-abbrev place : tie.After-behind Inv-loop μ-loop → ℕ
-place c = c .before .before .before .before .before .loop .at
+behind-requires c κs = omega (arith, goes (c .before .before .before))
 
 -- where it goes on
 further :
     (c : tie.After-behind Inv-loop μ-loop)
-    → (place c < c .behind .result) × (c .behind .result < length (image c) → c .behind .result % wordBytes ≡ 0)
+    → (c .before .before .before .before .before .before .loop .at < c .behind .result)
+    × Filling
+    (length (c .before .before .before .before .before .before .before .before .args .img .now))
+    (mem (c .before .before .before .before .before .before .before .before .args .img .now))
+    (c .before .before .before .before .before .before .before .before .args .from)
+    (c .before .three .last .0)
+    (c .behind .result)
+    (c .before .three .result)
 further c =
-    let l : place c < length (image c) = omega arith in
-    onward-on _ _ _ (c .behind .ensures) l (c .before .before .before .before .before .loop .inv l)
+    let t = goes (c .before .before .before .before) in
+    let w = c .before .three .ensures in
+    filling-next _ _ _ _ (c .before .before .before .before .before .before .loop .inv) (t .0) (omega (arith, t .1)) (c .before .before .before .read .ensures) (w .0) (w .1) (c .behind .ensures)
 
 loop-less : tie.Need-loop-less Inv-loop μ-loop
-loop-less c = omega (arith, further c)
+loop-less c = omega (arith, goes (c .before .before .before .before) .0, further c .0)
 
 loop-again : tie.Need-loop-again Inv-loop μ-loop
 loop-again c = further c .1
 
-returns-2 : tie.Need-returns-2 Inv-loop μ-loop
-returns-2 c = tt
+returns : tie.Need-returns Inv-loop μ-loop
+returns c = filling-end (c .before .before .loop .inv) (sym (c .before .one-more .ensures) ∙ c .if1 .left)
 
 pub clumps-spec : {M : Type 1} → statement M
 clumps-spec =
@@ -64,11 +71,10 @@ clumps-spec =
     Inv-loop
     μ-loop
     loop-holds
-    sub-if1
-    returns
+    one-more-requires
     read-requires
     three-requires
     behind-requires
     loop-less
     loop-again
-    returns-2)
+    returns)

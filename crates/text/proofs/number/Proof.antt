@@ -1,9 +1,9 @@
--- `field`: the digits and the byte behind them. Assumes nothing.
+-- `number`: the digits and the byte behind them. Assumes nothing.
 use native.Mathlib.Omega.{arith}
-use Rattle.line.specs.Writing.{wrote-byte, wrote-then}
+use Rattle.text.specs.Writing.{wrote-byte, wrote-then}
 use borrow.Author.Needs.{needs}
-use Rattle.line.proofs.text.field.Statement.{statement}
-use Rattle.line.proofs.text.field.Tie as tie
+use Rattle.text.proofs.number.Statement.{statement}
+use Rattle.text.proofs.number.Tie as tie
 
 spell-requires : tie.Need-spell-requires
 spell-requires c κs = search needs
@@ -20,5 +20,5 @@ same-length c = search needs
 returns : tie.Need-returns
 returns c = (wrote-then (c .before .before .spell .ensures .0) (wrote-byte _ _ _), omega arith)
 
-pub field-spec : {M : Type 1} → statement M
-field-spec = tie.close (tie.spec spell-requires slice-write-out add-result same-length returns)
+pub number-spec : {M : Type 1} → statement M
+number-spec = tie.close (tie.spec spell-requires slice-write-out add-result same-length returns)

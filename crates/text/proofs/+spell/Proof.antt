@@ -1,16 +1,16 @@
 -- `spell`: one digit, or the digits of a tenth and then the last. The measure is the number. Assumes nothing.
 use native.Mathlib.Omega.{arith}
 use lib.ListN.{length-set}
-use Rattle.line.specs.Decimals.{decimal-one, decimal-more, decimal-longer, decimal-short}
-use Rattle.line.specs.Writing.{wrote-byte, wrote-then}
+use Rattle.text.specs.Decimals.{decimal-one, decimal-more, decimal-longer, decimal-short}
+use Rattle.text.specs.Writing.{wrote-byte, wrote-then}
 use Prim.Native.Nat.{ℕ, _<_}
 use borrow.Fn.Kinds.{In}
 use borrow.Fn.PlainCycle.{Measures, is, falls, and}
-use Rattle.line.proofs.text.spell.Reads as spell
-use Rattle.line.proofs.text.spell.Kinds as spell-kinds
-use Rattle.line.proofs.text.+spell.Lts-spell as spell-lts
-use Rattle.line.proofs.text.+spell.{statement}
-use Rattle.line.proofs.text.+spell.Tie.{close}
+use Rattle.text.proofs.spell.Reads as spell
+use Rattle.text.proofs.spell.Kinds as spell-kinds
+use Rattle.text.proofs.+spell.Lts-spell as spell-lts
+use Rattle.text.proofs.+spell.{statement}
+use Rattle.text.proofs.+spell.Tie.{close}
 
 abbrev μ-spell : Measures 1 spell-kinds.ps ℕ
 μ-spell κs a = a .1 .1 .0

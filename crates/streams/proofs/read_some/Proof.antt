@@ -1,0 +1,70 @@
+-- `read_some`: the measure is the turns left. Assumes nothing.
+use mathlib.Core.Path.{_≡_, refl, ap, _∙_}
+use mathlib.Core.Logic.{⊎-elim}
+use native.Mathlib.Omega.{arith}
+use lib.ListN.{length}
+use Rattle.streams.proofs.read_some.Statement.{statement}
+use Rattle.streams.proofs.read_some.Tie as tie
+
+abbrev Inv-loop : tie.InvT-loop
+Inv-loop fd what chunk₀ turns₀ chunk turns = length chunk ≡ length chunk₀
+
+abbrev μ-loop : tie.MeasureT-loop
+μ-loop fd what chunk₀ turns₀ chunk turns = turns
+
+loop-holds : tie.Need-loop-holds Inv-loop μ-loop
+loop-holds c = refl
+
+read-requires : tie.Need-read-requires Inv-loop μ-loop
+read-requires c κs = tt
+
+count-requires : tie.Need-count-requires Inv-loop μ-loop
+count-requires c κs = tt
+
+same-length : tie.Need-same-length Inv-loop μ-loop
+same-length c = c .before .before .before .before .before .read .kept .1 .0 ∙ c .before .before .before .before .before .before .before .before .loop .inv
+
+returns : tie.Need-returns Inv-loop μ-loop
+returns c = c .count .ensures .0
+
+interrupted-requires : tie.Need-interrupted-requires Inv-loop μ-loop
+interrupted-requires c κs = tt
+
+sub-turns : tie.Need-sub-turns Inv-loop μ-loop
+sub-turns c = omega arith
+
+loop-less : tie.Need-loop-less Inv-loop μ-loop
+loop-less c = omega arith
+
+loop-again : tie.Need-loop-again Inv-loop μ-loop
+loop-again c = c .before .before .before .before .before .read .kept .1 .0 ∙ c .before .before .before .before .before .before .before .before .loop .inv
+
+fail-requires : tie.Need-fail-requires Inv-loop μ-loop
+fail-requires c κs = tt
+
+same-length-2 : tie.Need-same-length-2 Inv-loop μ-loop
+same-length-2 c =
+    let before = c .before .before .loop .inv in
+    ⊎-elim (λ w. ap length (w .1) ∙ before) (λ w. ap length (w .8) ∙ w .2 .kept .1 .0 ∙ before) (c .before .loop-test .came)
+
+returns-2 : tie.Need-returns-2 Inv-loop μ-loop
+returns-2 c = (omega arith, refl)
+
+pub read-some-spec : {M : Type 1} → statement M
+read-some-spec =
+    tie.close
+    (tie.spec
+    Inv-loop
+    μ-loop
+    loop-holds
+    read-requires
+    count-requires
+    same-length
+    returns
+    interrupted-requires
+    sub-turns
+    loop-less
+    loop-again
+    fail-requires
+    same-length-2
+    returns-2)

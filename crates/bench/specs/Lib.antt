@@ -1,6 +1,4 @@
 -- What the program makes of a line, a byte and its whole input, in document 01's words ("The program"), and the laws of the code.
 pub mod Steps
-pub mod Shown
-pub mod Parts
 pub mod Feeding
 pub mod Inputs

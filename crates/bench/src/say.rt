@@ -1,6 +1,5 @@
 // The writes of the program. Each hands over what `show` has put into a buffer, and answers whether it was written; a failure is told
 // already. Takes any answer and any image. No contract can say what is written: what is handed over is in the contracts of `show`.
-use crate::show;
 use libc::STDOUT_FILENO;
 use page::CLUMPS_AT;
 use rules::Answer;

@@ -2,8 +2,8 @@
 use native.Mathlib.Omega.{arith}
 use borrow.Author.Needs.{needs}
 use Rattle.text.specs.Writing.{begins}
-use Rattle.bench.proofs.show.question.Statement.{statement}
-use Rattle.bench.proofs.show.question.Tie as tie
+use Rattle.show.proofs.question.Statement.{statement}
+use Rattle.show.proofs.question.Tie as tie
 
 question-requires : tie.Need-question-requires
 question-requires c κs = search needs

@@ -1,5 +1,5 @@
 // What the program prints, put into a buffer: the reply to a request, a question mark, the clumps of an image. Takes any numbers and any
-// image. `say` hands it over to be written.
+// image. Nothing here reads input or writes output.
 ghost use mathlib.Core.Path.{_≡_};
 ghost use mathlib.Core.Bool.{_&&_};
 ghost use Prim.Native.Nat.{_+_, _%_, _<_};
@@ -10,8 +10,8 @@ ghost use Rattle.rules.specs.Clumps.{headerBytes};
 ghost use Rattle.page.specs.Forms.{headOf};
 ghost use Rattle.text.specs.Writing.{Begins};
 ghost use Rattle.line.specs.Texts.{threeBytes, replyText, badText};
-ghost use Rattle.bench.specs.Shown.{onward, room};
-ghost use Rattle.bench.specs.Parts.{Shows};
+ghost use Rattle.show.specs.Shown.{onward, room};
+ghost use Rattle.show.specs.Parts.{Shows};
 use page::clump::Clump;
 use rules::Answer;
 

@@ -2,8 +2,8 @@
 use native.Mathlib.Omega.{arith}
 use borrow.Author.Needs.{needs}
 use Rattle.text.specs.Writing.{begins}
-use Rattle.bench.proofs.show.reply.Statement.{statement}
-use Rattle.bench.proofs.show.reply.Tie as tie
+use Rattle.show.proofs.reply.Statement.{statement}
+use Rattle.show.proofs.reply.Tie as tie
 
 three-requires : tie.Need-three-requires
 three-requires c κs = search needs

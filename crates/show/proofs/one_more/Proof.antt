@@ -6,9 +6,9 @@ use borrow.Author.Needs.{needs}
 use borrow.Author.Tests.{not-true, not-false}
 use Rattle.word.specs.Tests.{leb-same}
 use Rattle.line.specs.Texts.{threeBytes}
-use Rattle.bench.specs.Shown.{room}
-use Rattle.bench.proofs.show.one_more.Statement.{statement}
-use Rattle.bench.proofs.show.one_more.Tie as tie
+use Rattle.show.specs.Shown.{room}
+use Rattle.show.proofs.one_more.Statement.{statement}
+use Rattle.show.proofs.one_more.Tie as tie
 
 is-left-requires : tie.Need-is-left-requires
 is-left-requires c κs = search needs

@@ -4,9 +4,9 @@ use native.Mathlib.Omega.{arith}
 use borrow.Author.Needs.{needs}
 use borrow.Author.Tests.{lt-ltb, le-ltb}
 use Rattle.judge.specs.Judging.{size-odd, size-small, size-room}
-use Rattle.bench.specs.Shown.{onward-stops, onward-goes}
-use Rattle.bench.proofs.show.behind.Statement.{statement}
-use Rattle.bench.proofs.show.behind.Tie as tie
+use Rattle.show.specs.Shown.{onward-stops, onward-goes}
+use Rattle.show.proofs.behind.Statement.{statement}
+use Rattle.show.proofs.behind.Tie as tie
 
 returns : tie.Need-returns
 returns c = onward-stops _ _ (size-odd _ _ _ refl (c .if1 .taken))

@@ -17,8 +17,8 @@ use Rattle.page.specs.declared.clump.Clump.{Clump}
 use Rattle.page.specs.Forms.{headOf}
 use Rattle.text.specs.Writing.{Wrote, wrote-front, wrote-length}
 use Rattle.line.specs.Texts.{threeBytes}
-use Rattle.bench.specs.declared.show.Part.{Part}
-use Rattle.bench.specs.Shown.{linesFrom, lines-next, headText, onward, onward-on, room}
+use Rattle.show.specs.declared.Part.{Part}
+use Rattle.show.specs.Shown.{linesFrom, lines-next, headText, onward, onward-on, room}
 
 -- the part and then the lines from where the walk goes on are those from the place asked; it ends where no header is left or no line
 -- has room, and gets on. `inside` and `front` are what lending it asks.

@@ -5,8 +5,8 @@ use native.Mathlib.Omega.{arith}
 use borrow.Author.Tests.{lt-leb}
 use Rattle.rules.specs.Clumps.{headerBytes}
 use Rattle.word.specs.Tests.{leb-same}
-use Rattle.bench.proofs.show.is_left.Statement.{statement}
-use Rattle.bench.proofs.show.is_left.Tie as tie
+use Rattle.show.proofs.is_left.Statement.{statement}
+use Rattle.show.proofs.is_left.Tie as tie
 
 returns : tie.Need-returns
 returns c = let a = c .before .args in sym (lt-leb (a .at + headerBytes) (a .length) (omega arith))

@@ -6,10 +6,10 @@ use lib.ListN.{length}
 use Rattle.rules.specs.Words.{mem}
 use Rattle.rules.specs.Clumps.{headerBytes}
 use Rattle.line.specs.Texts.{threeBytes}
-use Rattle.bench.specs.Shown.{room}
-use Rattle.bench.specs.Parts.{Filling, filling-start, filling-goes, filling-next, filling-end}
-use Rattle.bench.proofs.show.clumps.Statement.{statement}
-use Rattle.bench.proofs.show.clumps.Tie as tie
+use Rattle.show.specs.Shown.{room}
+use Rattle.show.specs.Parts.{Filling, filling-start, filling-goes, filling-next, filling-end}
+use Rattle.show.proofs.clumps.Statement.{statement}
+use Rattle.show.proofs.clumps.Tie as tie
 
 abbrev Inv-loop : tie.InvT-loop
 Inv-loop img out₀ from at₀ count₀ out at count = Filling (length img) (mem img) from out at count

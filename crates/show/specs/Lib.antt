@@ -1,0 +1,3 @@
+-- What `walk` prints, and what stands in a buffer of it.
+pub mod Shown
+pub mod Parts

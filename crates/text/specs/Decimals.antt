@@ -10,7 +10,7 @@ use lib.Dec.{ltb}
 use lib.ListN.{length, length-append}
 use borrow.Author.Tests.{lt-ltb, le-ltb, ltb-true, ltb-false}
 use Rattle.rules.specs.Words.{wordValues}
-use Rattle.text.specs.Texts.{zeroDigit, digits, decimal, field, mostDigits, fieldBytes}
+use Rattle.text.specs.Texts.{zeroDigit, digits, decimal, mostDigits}
 
 -- one digit, and more
 digits-one : (k n : ℕ) → n < 10 → digits k n ≡ (zeroDigit + n) ∷ []
@@ -63,6 +63,3 @@ digits-short (suc d) (suc k) n l = go (ltb n 10) refl (digits-short d k (n / 10)
 pub decimal-short : (n : ℕ) → n < wordValues → length (decimal n) ≤ mostDigits
 unfolding decimal
 decimal-short n l = digits-short 19 n n (omega arith)
-
-pub field-short : (n e : ℕ) → n < wordValues → length (field n e) ≤ fieldBytes
-field-short n e l = rw length-append (omega (arith, decimal-short n l))

@@ -7,5 +7,3 @@ pub mod Cases
 pub mod Outcomes
 pub mod Filling
 pub mod Texts
-pub mod Decimals
-pub mod Putting

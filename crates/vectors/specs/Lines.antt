@@ -5,6 +5,7 @@ use mathlib.Core.List.{List, [], _∷_}
 use lib.Dec.{eqb, ltb}
 use lib.ListN.{set}
 use Rattle.rules.specs.Words.{wordValues}
+use Rattle.text.specs.Texts.{space, newline, zeroDigit}
 use Rattle.vectors.specs.declared.line.Reading.{Reading}
 use Rattle.vectors.specs.declared.line.Reading.the-variants.{Nothing, Number, Malformed}
 use Rattle.vectors.specs.declared.line.Line.{Line}
@@ -12,12 +13,6 @@ use Rattle.vectors.specs.declared.line.Line.{Line}
 -- a line has this many numbers at most
 abbrev pub most : ℕ
 most = 256
-
-abbrev pub space : ℕ
-space = 32
-
-abbrev pub newline : ℕ
-newline = 10
 
 -- one digit more: a number is below 2^64
 abbrev pub withNext : ℕ → ℕ → Reading
@@ -30,7 +25,7 @@ withDigit Malformed d = Malformed
 
 -- a byte that ends no number: the digits are 48 to 57
 abbrev pub readByte : Reading → ℕ → Reading
-readByte r b = cond (ltb b 48) Malformed (cond (ltb 57 b) Malformed (withDigit r (b - 48)))
+readByte r b = cond (ltb b zeroDigit) Malformed (cond (ltb 57 b) Malformed (withDigit r (b - zeroDigit)))
 
 -- a line of which nothing is read
 abbrev pub started : ℕ → Line

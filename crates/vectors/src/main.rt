@@ -1,7 +1,9 @@
 // Runs the library on the cases of the file that its first argument names, a case a line, and prints one line for each. A line that is no
-// case gets its number and `bad`. Takes any file, and assumes nothing of it. What stands in the file and what is printed is outside every
-// contract; what becomes of the bytes that were read is in the contracts of `take_all` and of the modules.
+// case gets its number and `bad`. Takes any file, and assumes nothing of it. Where a read or a write fails, that is told in one line on
+// standard error, and the program ends: nothing more is read, run or printed. What stands in the file and what is printed is outside
+// every contract; what becomes of the bytes that were read is in the contracts of `take_all` and of the modules.
 ghost use mathlib.Core.Path.{_≡_};
+ghost use mathlib.Core.Bool.{true};
 ghost use Rattle.vectors.specs.Lines.{nextCase, place, lineNext, numbersNext, readOn};
 use crate::line::Line;
 use crate::line::Reading;
@@ -10,15 +12,15 @@ use libc::STDOUT_FILENO;
 
 mod case;
 mod line;
+mod reply;
 mod run;
 mod sum;
-mod text;
 
-// The line of a case, in one call.
-fn print(case: u64, ran: Ran) {
+// Prints the line of a case. False where the write failed, which is told already.
+fn print(case: u64, ran: Ran) -> bool {
     let mut out = [0u8; 256];
-    let n = text::answer(&mut out, case, ran);
-    io::write_all(STDOUT_FILENO, &out[..n]);
+    let n = reply::line(&mut out, case, ran);
+    streams::write_whole(STDOUT_FILENO, b"standard output", &out[..n])
 }
 
 // The number of the next case. No run comes to the last.
@@ -31,59 +33,77 @@ fn next(case: u64) -> u64
     case + 1
 }
 
+// What bytes lead to: the line under way, and whether every line before it could be printed. Where one could not, the program ends.
+struct Taken {
+    line: Line,
+    ok: bool,
+}
+
 // One byte. At the end of a line its case is run and printed.
-fn take(l: Line, b: u8, numbers: &mut [u64; 256]) -> Line
-    ensures { λ r. ⌜ (r ≡ lineNext l b) × (now (numbers .exit) ≡ numbersNext l b (now (numbers .entry))) ⌝ }
+fn take(l: Line, b: u8, numbers: &mut [u64; 256]) -> Taken
+    ensures { λ r. ⌜ (r .line ≡ lineNext l b) × (now (numbers .exit) ≡ numbersNext l b (now (numbers .entry))) ⌝ }
 {
     if b == b'\n' {
         let whole = line::put(l, numbers);
-        print(l.case, run::run(whole, numbers));
-        return Line::new(next(l.case));
+        let ok = print(l.case, run::run(whole, numbers));
+        return Taken {
+            line: Line::new(next(l.case)),
+            ok,
+        };
     }
-    line::take(l, b, numbers)
+    Taken {
+        line: line::take(l, b, numbers),
+        ok: true,
+    }
 }
 
-// The bytes of a chunk, one after the other.
-fn take_all(l: Line, bytes: &[u8], numbers: &mut [u64; 256]) -> Line
-    ensures { λ r. ⌜ place r (now (numbers .exit)) ≡ readOn (place l (now (numbers .entry))) (now (bytes .entry)) ⌝ }
+// The bytes of a chunk, one after the other, up to the first line that could not be printed.
+fn take_all(l: Line, bytes: &[u8], numbers: &mut [u64; 256]) -> Taken
+    ensures { λ r. ⌜ (r .ok ≡ true → place (r .line) (now (numbers .exit)) ≡ readOn (place l (now (numbers .entry))) (now (bytes .entry))) ⌝ }
 {
     let mut here = l;
     let mut i: usize = 0;
     while i < bytes.len() {
-        here = take(here, bytes[i], numbers);
+        let taken = take(here, bytes[i], numbers);
+        if !taken.ok {
+            return taken;
+        }
+        here = taken.line;
         i += 1;
     }
-    here
+    Taken {
+        line: here,
+        ok: true,
+    }
 }
 
-// What a read leaves: the line under way, and whether more may come.
-struct Step {
-    line: Line,
-    more: bool,
+// What a read leads to: the line under way where more may come, the end of the file, or a failure, which is told already.
+enum Step {
+    More(Line),
+    End,
+    Failed,
 }
 
 // Reads once and takes what came.
 fn read_some(fd: i32, path: &[u8], l: Line, numbers: &mut [u64; 256]) -> Step {
     let mut buf = io::large_buffer();
-    let got = libc::read(fd, &mut buf);
-    if got < 0 {
-        os::fail(path);
+    let got = streams::read_some(fd, path, &mut buf);
+    if got.failed {
+        return Step::Failed;
     }
-    if got <= 0 {
-        return Step {
-            line: l,
-            more: false,
-        };
+    let n = got.count;
+    if n == 0 {
+        return Step::End;
     }
-    let n = io::count(got, &buf);
-    let after = take_all(l, &buf[..n], numbers);
-    Step {
-        line: after,
-        more: true,
+    let taken = take_all(l, &buf[..n], numbers);
+    if !taken.ok {
+        return Step::Failed;
     }
+    let after = taken.line;
+    Step::More(after)
 }
 
-// A line that nothing ends is malformed.
+// A line that nothing ends is malformed. Nothing comes after it, so that it makes no difference whether it could be printed.
 fn end(l: Line) {
     let r = l.reading;
     if l.count == 0 {
@@ -94,6 +114,7 @@ fn end(l: Line) {
     print(l.case, Ran::Malformed);
 }
 
+// The whole file, a chunk at a time. Only at its end is the line under way one that nothing ends; after a failure nobody knows.
 // A proved loop has to end, and nothing says that a file does. So the loop counts its turns down, from a number that no run uses up.
 fn read_all(fd: i32, path: &[u8]) {
     let mut numbers = [0u64; 256];
@@ -101,13 +122,16 @@ fn read_all(fd: i32, path: &[u8]) {
     let mut turns: u64 = 18446744073709551615;
     while turns > 0 {
         let s = read_some(fd, path, line, &mut numbers);
-        line = s.line;
-        if !s.more {
-            break;
+        match s {
+            Step::More(l) => line = l,
+            Step::End => {
+                end(line);
+                return;
+            }
+            Step::Failed => return,
         }
         turns -= 1;
     }
-    end(line);
 }
 
 fn main() {

@@ -18,6 +18,24 @@ loop-holds c = tt
 read-some-requires : tie.Need-read-some-requires Inv-loop μ-loop
 read-some-requires c κs = tt
 
+enum-known-s : tie.Need-enum-known-s Inv-loop μ-loop
+enum-known-s c = search needs
+
+enum-told : tie.Need-enum-told Inv-loop μ-loop
+enum-told c = search needs
+
+end-requires : tie.Need-end-requires Inv-loop μ-loop
+end-requires c κs = tt
+
+returns : tie.Need-returns Inv-loop μ-loop
+returns c = tt
+
+enum-told-2 : tie.Need-enum-told-2 Inv-loop μ-loop
+enum-told-2 c = search needs
+
+returns-2 : tie.Need-returns-2 Inv-loop μ-loop
+returns-2 c = tt
+
 sub-turns : tie.Need-sub-turns Inv-loop μ-loop
 sub-turns c = search needs
 
@@ -27,11 +45,8 @@ loop-less c = search needs
 loop-again : tie.Need-loop-again Inv-loop μ-loop
 loop-again c = tt
 
-end-requires : tie.Need-end-requires Inv-loop μ-loop
-end-requires c κs = tt
-
-returns : tie.Need-returns Inv-loop μ-loop
-returns c = tt
+returns-3 : tie.Need-returns-3 Inv-loop μ-loop
+returns-3 c = tt
 
 pub read-all-spec : {M : Type 1} → statement M
 read-all-spec =
@@ -42,8 +57,13 @@ read-all-spec =
     new-requires
     loop-holds
     read-some-requires
+    enum-known-s
+    enum-told
+    end-requires
+    returns
+    enum-told-2
+    returns-2
     sub-turns
     loop-less
     loop-again
-    end-requires
-    returns)
+    returns-3)

@@ -1,4 +1,4 @@
--- `take`: a newline ends the line and begins the next, whatever is printed; any other byte is the line's. Assumes nothing.
+-- `take`: a newline ends the line and begins the next, whatever comes of printing it; any other byte is the line's. Assumes nothing.
 use mathlib.Core.Path.{ap, _∙_}
 use borrow.Author.Needs.{needs}
 use borrow.Author.Tests.{eq-eqb, ne-eqb}

@@ -1,7 +1,10 @@
--- `take_all`: the bytes that are left lead from here to where all of them lead. Assumes nothing.
+-- `take_all`: the bytes that are left lead from here to where all of them lead; a failure promises nothing. Assumes nothing.
 use Prim.Native.Nat.{_-_}
+use mathlib.Core.Path.{sym, _∙_}
+use mathlib.Core.Bool.{true≢false}
 use lib.ListN.{length}
 use borrow.Author.Needs.{needs}
+use borrow.Author.Tests.{not-true}
 use Rattle.vectors.specs.Lines.{place}
 use Rattle.vectors.specs.Steps.{Reading-on, reading-start, reading-next, reading-end}
 use Rattle.vectors.proofs.take_all.Statement.{statement}
@@ -22,6 +25,9 @@ shared-slice-read-take c = search needs
 take-requires : tie.Need-take-requires Inv-loop μ-loop
 take-requires c κs = search needs
 
+returns : tie.Need-returns Inv-loop μ-loop
+returns c = λ e. absurd (true≢false (sym e ∙ not-true _ (c .if1 .taken)))
+
 add-i : tie.Need-add-i Inv-loop μ-loop
 add-i c = search needs
 
@@ -29,11 +35,13 @@ loop-less : tie.Need-loop-less Inv-loop μ-loop
 loop-less c = search needs
 
 loop-again : tie.Need-loop-again Inv-loop μ-loop
-loop-again c = let l = c .before .before .before .before .loop in
-    rw (c .take .ensures .0, c .take .ensures .1) (reading-next _ _ (place (l .here) (l .numbers)) (l .i) (l .inv) (search needs))
+loop-again c =
+    let l = c .before .before .before .before .before .before .before .loop in
+    let t = c .before .before .before .take in
+    rw (t .ensures .0, t .ensures .1) (reading-next _ _ (place (l .here) (l .numbers)) (l .i) (l .inv) (search needs))
 
-returns : tie.Need-returns Inv-loop μ-loop
-returns c = reading-end _ _ (place (c .before .loop .here) (c .before .loop .numbers)) _ (c .before .loop .inv) (c .loop-test .left)
+returns-2 : tie.Need-returns-2 Inv-loop μ-loop
+returns-2 c = λ e. reading-end _ _ (place (c .before .loop .here) (c .before .loop .numbers)) _ (c .before .loop .inv) (c .loop-test .left)
 
 pub take-all-spec : {M : Type 1} → statement M
 take-all-spec =
@@ -44,7 +52,8 @@ take-all-spec =
     loop-holds
     shared-slice-read-take
     take-requires
+    returns
     add-i
     loop-less
     loop-again
-    returns)
+    returns-2)

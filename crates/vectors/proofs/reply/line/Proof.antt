@@ -1,7 +1,7 @@
--- `answer`: each arm is that of the definition. Assumes nothing.
+-- `line`: each arm is that of the definition. Assumes nothing.
 use borrow.Author.Needs.{needs}
-use Rattle.vectors.proofs.text.answer.Statement.{statement}
-use Rattle.vectors.proofs.text.answer.Tie as tie
+use Rattle.vectors.proofs.reply.line.Statement.{statement}
+use Rattle.vectors.proofs.reply.line.Tie as tie
 
 enum-known-ran : tie.Need-enum-known-ran
 enum-known-ran c = search needs
@@ -27,8 +27,8 @@ same-length-2 c = search needs
 returns-2 : tie.Need-returns-2
 returns-2 c = rw (c .before .before .before .before .enum-told .given .1) (c .before .before .malformed .ensures)
 
-pub answer-spec : {M : Type 1} → statement M
-answer-spec =
+pub line-spec : {M : Type 1} → statement M
+line-spec =
     tie.close
     (tie.spec
     enum-known-ran

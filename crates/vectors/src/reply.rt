@@ -1,0 +1,69 @@
+// The line that a case gets, put together in a buffer from its start on. Asks for a buffer of 256 bytes: a number takes 21 at most, with
+// the byte behind it, so that the eleven of a line fit.
+ghost use mathlib.Core.Path.{_≡_};
+ghost use Prim.Native.Nat.{_≤_};
+ghost use lib.ListN.{length};
+ghost use Rattle.text.specs.Writing.{Wrote};
+ghost use Rattle.vectors.specs.declared.run.Ran.the-variants.{Done, Malformed};
+ghost use Rattle.vectors.specs.Texts.{lineBytes, fieldsOf, textOf};
+use crate::run::Outcome;
+use crate::run::Ran;
+
+// N ANSWER PLACE FAULT STORES FREE RESERVED ACTIVATING ACTIVE FREEING SUM
+fn fields(case: u64, o: Outcome) -> [u64; 11]
+    ensures { λ r. ⌜ r ≡ fieldsOf case o ⌝ }
+{
+    let a = o.answer;
+    let t = o.totals;
+    [
+        case,
+        a.answer,
+        a.place,
+        a.fault,
+        a.stores,
+        t.free,
+        t.reserved,
+        t.activating,
+        t.active,
+        t.freeing,
+        o.sum,
+    ]
+}
+
+// The line of a case that was run.
+fn done(out: &mut [u8], case: u64, o: Outcome) -> usize
+    requires { ⌜ lineBytes ≤ length (now out) ⌝ }
+    ensures { λ r. ⌜ Wrote (now (out .entry)) 0 (textOf case (Done o)) (now (out .exit)) r ⌝ }
+    ensures { λ r. ⌜ r ≤ lineBytes ⌝ }
+{
+    let f = fields(case, o);
+    let mut at: usize = 0;
+    let mut i: usize = 0;
+    while i < 10 {
+        at = text::number(out, at, f[i], b' ');
+        i += 1;
+    }
+    text::number(out, at, f[10], b'\n')
+}
+
+// The line of a malformed one.
+fn malformed(out: &mut [u8], case: u64) -> usize
+    requires { ⌜ lineBytes ≤ length (now out) ⌝ }
+    ensures { λ r. ⌜ Wrote (now (out .entry)) 0 (textOf case Malformed) (now (out .exit)) r ⌝ }
+    ensures { λ r. ⌜ r ≤ lineBytes ⌝ }
+{
+    let at = text::number(out, 0, case, b' ');
+    text::bytes(out, at, b"bad\n")
+}
+
+// The line of a case, by its number and what it leads to. Answers with how long it is.
+pub fn line(out: &mut [u8], case: u64, ran: Ran) -> usize
+    requires { ⌜ lineBytes ≤ length (now out) ⌝ }
+    ensures { λ r. ⌜ Wrote (now (out .entry)) 0 (textOf case ran) (now (out .exit)) r ⌝ }
+    ensures { λ r. ⌜ r ≤ lineBytes ⌝ }
+{
+    match ran {
+        Ran::Done(o) => done(out, case, o),
+        Ran::Malformed => malformed(out, case),
+    }
+}

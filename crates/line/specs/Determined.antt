@@ -2,9 +2,9 @@
 -- many bytes a buffer holds, which, and that the rest is kept; those of `three` and `question` are `Wrote`, which has its law in `text`.
 -- Assumes nothing.
 use Prim.Native.Nat.{ℕ}
-use mathlib.Core.Path.{_≡_, sym, ap, ap₂, _∙_}
-use mathlib.Core.List.{List, _++_}
-use lib.ListN.{length, take, drop, take-append-drop}
+use mathlib.Core.Path.{_≡_, sym, _∙_}
+use mathlib.Core.List.{List}
+use Rattle.text.specs.Writing.{parts-same}
 use Rattle.line.specs.declared.Line.{Line}
 use Rattle.line.specs.Lines.{lineOf, fuseAfter}
 use Rattle.line.specs.Gathering.{Gathered}
@@ -14,10 +14,6 @@ read-determined s a b = a ∙ sym b
 
 pub fuse-determined : (fuse : ℕ) (l : Line) {r t : ℕ} → r ≡ fuseAfter fuse l → t ≡ fuseAfter fuse l → r ≡ t
 fuse-determined fuse l a b = a ∙ sym b
-
--- a buffer is its first bytes and the rest
-parts-same : (r : ℕ) (y z : List ℕ) → take r y ≡ take r z → drop r y ≡ drop r z → y ≡ z
-parts-same r y z p q = sym (take-append-drop r y) ∙ ap₂ _++_ p q ∙ take-append-drop r z
 
 pub gather-determined : {k : ℕ} {x y z : List ℕ} {count b r t : ℕ} → Gathered k x count b y r → Gathered k x count b z t → (y ≡ z) × (r ≡ t)
 gather-determined {y = y} {z = z} {r = r} v w =

@@ -14,7 +14,8 @@ use Rattle.text.specs.Texts.{space, zeroDigit}
 use Rattle.line.specs.declared.Line.{Line}
 use Rattle.line.specs.declared.Line.the-variants.{Ask, Fuse, Walk, Bad}
 
--- "Fields are parted by one space." A byte before the fields that follow it: a space ends a field, any other byte belongs to the first of them
+-- "Fields are parted by one space." A byte before the fields that follow it: a space ends a field, any other byte belongs to the first
+-- of them.
 abbrev pub parted : Bool → ℕ → List (List ℕ) → List (List ℕ)
 parted true b fs = [] ∷ fs
 parted false b [] = (b ∷ []) ∷ []

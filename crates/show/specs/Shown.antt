@@ -51,20 +51,7 @@ size-whole : (n : ℕ) (h : Head) → sizeBad n h ≡ false → h .nbytes % unit
 unfolding sizeBad
 size-whole n h e = eqb-true _ _ (not-false _ (or-neither _ _ (or-neither _ _ e .0) .0))
 
--- on any bytes: further on, and to a word as long as the end is not reached
-pub onward-on :
-    (n : ℕ) (h : Head) (r : ℕ)
-    → r ≡ onward n h
-    → h .at < n
-    → h .at % wordBytes ≡ 0
-    → (h .at < r) × (r < n → r % wordBytes ≡ 0)
-unfolding onward
-onward-on n h r e l a = go (sizeBad n h) refl e
-  where
-    go : (t : Bool) → sizeBad n h ≡ t → r ≡ cond t n (endOf h) → (h .at < r) × (r < n → r % wordBytes ≡ 0)
-    go true p q = omega arith
-    go false p q = omega (arith, size-good n h p, size-whole n h p)
-
+-- on any bytes: further on
 onward-further : (n : ℕ) (h : Head) → h .at < n → h .at < onward n h
 unfolding onward
 onward-further n h l = go (sizeBad n h) refl
@@ -72,6 +59,23 @@ onward-further n h l = go (sizeBad n h) refl
     go : (t : Bool) → sizeBad n h ≡ t → h .at < cond t n (endOf h)
     go true p = l
     go false p = omega (arith, size-good n h p)
+
+-- and to a word as long as the end is not reached
+onward-even : (n : ℕ) (h : Head) → h .at % wordBytes ≡ 0 → onward n h < n → onward n h % wordBytes ≡ 0
+unfolding onward
+onward-even n h a = go (sizeBad n h) refl
+  where
+    go : (t : Bool) → sizeBad n h ≡ t → cond t n (endOf h) < n → cond t n (endOf h) % wordBytes ≡ 0
+    go true p l = absurd (omega arith)
+    go false p l = omega (arith, size-whole n h p)
+
+pub onward-on :
+    (n : ℕ) (h : Head) (r : ℕ)
+    → r ≡ onward n h
+    → h .at < n
+    → h .at % wordBytes ≡ 0
+    → (h .at < r) × (r < n → r % wordBytes ≡ 0)
+onward-on n h r e l a = rw e (onward-further n h l, onward-even n h a)
 
 -- one line more, and none
 lines-more :
@@ -104,7 +108,7 @@ lines-same (suc k) (suc j) n m a p q = go (leb (a + headerBytes) n) refl (lines-
         let l : n < a + headerBytes = leb-false (a + headerBytes) n e in
         lines-none (suc k) n m a l ∙ sym (lines-none (suc j) n m a l)
 
--- the lines from a on: that of its clump and those behind it; none where no header is left
+-- the lines from a on: that of its clump and those behind it
 pub lines-next :
     (n : ℕ) (m : Mem) (a : ℕ)
     → a + headerBytes ≤ n
@@ -114,10 +118,6 @@ lines-next zero m a l = absurd (omega arith)
 lines-next (suc n) m a l =
     let f : a < onward (suc n) (head m a) = onward-further (suc n) (head m a) (omega arith) in
     rw (lines-more n (suc n) m a l, lines-same n (suc n) (suc n) m (onward (suc n) (head m a)) (omega arith) (omega arith))
-
-pub lines-end : (n : ℕ) (m : Mem) (a : ℕ) → n < a + headerBytes → linesFrom n m a ≡ []
-unfolding linesFrom
-lines-end n m a l = lines-none n n m a l
 
 -- the lines of the clumps of a walk
 unfoldable pub walkText : List Head → List ℕ

@@ -1,11 +1,11 @@
 -- What is written where in a buffer: the contracts of the code that prints, and their laws. Assumes nothing.
 use Prim.Native.Nat.{ℕ, suc, _+_, _<_, _≤_}
-use mathlib.Core.Path.{_≡_, refl, sym, ap, _∙_}
+use mathlib.Core.Path.{_≡_, refl, sym, ap, ap₂, _∙_}
 use mathlib.Core.List.{List, [], _∷_, _++_}
 use native.Mathlib.Omega.{arith}
 use native.Mathlib.Nat.{zero-add, add-zero, add-suc, suc-add}
 use native.Mathlib.Numerals.{add-one}
-use lib.ListN.{length, take, drop, getD, set, length-append}
+use lib.ListN.{length, take, drop, getD, set, length-append, take-append-drop}
 use lib.Seq.{sets, length-sets, sets-eq, length-take-le, take-append-seam, drop-append-seam, take-suc}
 
 -- a text stands from a place on, and nothing else changed; r is the place behind it
@@ -71,6 +71,15 @@ begins {x = x} {t = t} {y = y} {r = r} l w =
       kept = rw (e, n) (drop-append-seam t (drop (length t) x));
     }
 
+-- a buffer is its first bytes and the rest
+pub parts-same : (r : ℕ) (y z : List ℕ) → take r y ≡ take r z → drop r y ≡ drop r z → y ≡ z
+parts-same r y z p q = sym (take-append-drop r y) ∙ ap₂ _++_ p q ∙ take-append-drop r z
+
 -- any two outcomes are equal
+pub begins-determined : {x t y z : List ℕ} {r s : ℕ} → Begins x t y r → Begins x t z s → (y ≡ z) × (r ≡ s)
+begins-determined {y = y} {z = z} {r = r} v w =
+    let e = v .front ∙ ap length (v .told ∙ sym (w .told)) ∙ sym (w .front) in
+    (parts-same r y z (v .told ∙ sym (rw e (w .told))) (v .kept ∙ sym (rw e (w .kept))), e)
+
 pub wrote-determined : {x t y z : List ℕ} {i r s : ℕ} → Wrote x i t y r → Wrote x i t z s → (y ≡ z) × (r ≡ s)
 wrote-determined v w = (v .stands ∙ sym (w .stands), v .behind ∙ sym (w .behind))

@@ -2,21 +2,20 @@
 use Prim.Native.Nat.{ℕ, _+_, _-_, _%_, _<_, _≤_}
 use mathlib.Core.Path.{_≡_, refl, sym, ap, _∙_}
 use mathlib.Core.Bool.{Bool, true, false, cond, not, _&&_, _||_, or-true}
-use mathlib.Core.Option.{Option, some, none, Option·map}
+use mathlib.Core.Option.{Option, some, none}
 use mathlib.Core.List.{List, [], _∷_}
 use native.Mathlib.Omega.{arith}
 use native.Mathlib.Decide.{decLt}
 use lib.Dec.{ltb, eqb}
 use lib.ListN.{getD}
-use borrow.Author.Tests.{lt-ltb, le-ltb, ltb-false, eq-eqb, ne-eqb}
+use borrow.Author.Tests.{lt-ltb, le-ltb, eq-eqb, ne-eqb}
 use Rattle.rules.specs.Lists.{seek, those, any}
 use Rattle.rules.specs.Words.{Mem}
 use Rattle.rules.specs.Pages.{clumpsAt, unit}
 use Rattle.rules.specs.Clumps.{Head, leastClump, FREEING, isWaiting, isPending, isUsed, slots, walk}
 use Rattle.rules.specs.Sound.{Fault, faultAt, sizeBad, stateBad, inPlace, gapped, listBad, faultOf, clumpFault, second, secondFault, allValid, targetFault, judge}
 use Rattle.word.specs.Tests.{ltb-same}
-use Rattle.laws.specs.Searches.{or-neither, seek-hit, seek-pass}
-use Rattle.laws.specs.Walks.{isFaulty, rest-start, rest-end}
+use Rattle.laws.specs.Walks.{rest-start, rest-end}
 use Rattle.judge.specs.Forms.{gapsIn, judgedOf}
 use Rattle.page.specs.Forms.{targetOf, listAt}
 use Rattle.judge.specs.declared.Judged.{Judged}
@@ -47,14 +46,6 @@ module _ (n : ℕ) (h : Head) where
     size-room f l u =
         rw (← e, eq-eqb (w % unit) 0 f, le-ltb w leastClump l)
         (ltb-same (n - h .at) w n (h .at + w) (λ k. omega arith) (λ k. omega arith))
-
--- a size without fault
-pub size-good : (n : ℕ) (h : Head) → sizeBad n h ≡ false → (leastClump ≤ h .nbytes) × (h .at + h .nbytes ≤ n)
-unfolding sizeBad
-size-good n h e =
-    let a = or-neither (not (eqb (h .nbytes % unit) 0) || ltb (h .nbytes) leastClump) _ e in
-    let b = or-neither (not (eqb (h .nbytes % unit) 0)) _ (a .0) in
-    (ltb-false (h .nbytes) leastClump (b .1), ltb-false n (h .at + h .nbytes) (a .1))
 
 -- the gaps of a list, by its three targets
 pub gaps-are : (m : Mem) (a : ℕ) → gapped m (slots a) ≡ gapsIn (m (a + 16)) (m (a + 32)) (m (a + 48))
@@ -151,22 +142,6 @@ module _ (n : ℕ) (m : Mem) (h : Head) where
       pub fault-list : (b : Bool) → isWaiting h ≡ true → b ≡ (gapped m (slots (h .at)) || anyUsed (λ t. not (inPlace n t)) m (slots (h .at))) → cond b 3 0 ≡ faultOf n m h
       unfolding faultOf stateBad listBad
       fault-list b e f = rw (size, le-ltb FREEING (h .state) state, e, ← f)
-
--- the faults 1 to 3 of the clumps that are left
-module _ (n : ℕ) (m : Mem) (h : Head) (hs : List Head) where
-  pub clump-hit : (f : ℕ) → f ≡ faultOf n m h → (f ≡ 0 → ⊥) → clumpFault n m (h ∷ hs) ≡ some (faultAt f h)
-  unfolding clumpFault
-  clump-hit f e g =
-      ap (Option·map (λ k. faultAt (faultOf n m k) k)) (seek-hit (isFaulty n m) h hs (rw (← e, ne-eqb f 0 g)))
-      ∙ ap (λ (k : ℕ). some (faultAt k h)) (sym e)
-
-  pub clump-pass : faultOf n m h ≡ 0 → clumpFault n m (h ∷ hs) ≡ clumpFault n m hs
-  unfolding clumpFault
-  clump-pass e = ap (Option·map (λ k. faultAt (faultOf n m k) k)) (seek-pass (isFaulty n m) h hs (rw (eq-eqb (faultOf n m h) 0 e)))
-
-pub clump-end : (n : ℕ) (m : Mem) → clumpFault n m [] ≡ none
-unfolding clumpFault seek
-clump-end n m = refl
 
 -- an image too short for a clump has none, and no fault
 pub short-sound : (n : ℕ) (m : Mem) → n < clumpsAt → judge n m ≡ none

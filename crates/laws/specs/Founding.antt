@@ -1,15 +1,17 @@
 -- Where the stores of create land: in the static area, in the header page and in the first clump's header, each an aligned word of 64
--- bits. What holds of every such store holds of each store of create. By the list as the rules spell it. Assumes nothing.
+-- bits. What holds of every such store holds of each store of create. And how many they are. By the list as the rules spell it. Assumes
+-- nothing.
 use Prim.Native.Nat.{ℕ, zero, suc, _+_, _-_, _*_, _/_, _%_, _<_, _≤_}
-use mathlib.Core.Path.{_≡_, refl}
+use mathlib.Core.Path.{_≡_, refl, ap}
 use mathlib.Core.Logic.{_⊎_, inl, inr}
 use mathlib.Core.List.{[], _∷_, _++_}
 use native.Mathlib.Omega.{arith}
+use lib.ListN.{length, length-append}
 use Rattle.rules.specs.Lists.{Each}
 use Rattle.rules.specs.Words.{Store, le, store, zeros, wordBytes, wordValues}
 use Rattle.rules.specs.Pages.{pageBytes, staticAt, staticEnd, headerAt, signature, signatureLow, signatureHigh, signatureHighAt, totalAt, paddingAt, paddingWords, clumpsAt}
 use Rattle.rules.specs.Clumps.{headerBytes}
-use Rattle.rules.specs.Stores.{createStores}
+use Rattle.rules.specs.Stores.{createStores, createCount}
 use Rattle.laws.specs.Searches.{each-append}
 use Rattle.laws.specs.Pools.{RightLength}
 
@@ -21,6 +23,16 @@ zeros-each : (P : Store → Type 0) (i k : ℕ) → i % wordBytes ≡ 0 → ((o 
 unfolding zeros
 zeros-each P i zero e f = tt
 zeros-each P i (suc k) e f = (f i (omega arith) (omega arith) e, zeros-each P (i + wordBytes) k (omega arith) (λ o l u d. f o (omega arith) (omega arith) d))
+
+-- how many they are
+length-zeros : (i k : ℕ) → length (zeros i k) ≡ k
+unfolding zeros
+length-zeros i zero = refl
+length-zeros i (suc k) = ap suc (length-zeros (i + wordBytes) k)
+
+pub create-length : (n : ℕ) → length (createStores n) ≡ createCount
+unfolding createStores
+create-length n = simp (length-append, length-zeros) (omega arith)
 
 low-small : signatureLow < wordValues
 unfolding signatureLow le signature

@@ -6,11 +6,13 @@ pub mod Walking
 pub mod Pools
 pub mod Totals
 pub mod Headers
+pub mod Verdicts
 pub mod Independence
 pub mod Bodies
 pub mod Stored
 pub mod Mending
 pub mod Joins
+pub mod Granted
 pub mod Served
 pub mod Needs
 pub mod Behind
@@ -22,3 +24,4 @@ pub mod Founding
 pub mod OneWord
 pub mod Named
 pub mod Spare
+pub mod Counting

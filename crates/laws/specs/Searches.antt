@@ -3,9 +3,9 @@ use mathlib.Core.Path.{_≡_, refl, sym, ap, _∙_, subst}
 use mathlib.Core.Bool.{Bool, true, false, cond, _&&_, _||_}
 use mathlib.Core.Option.{Option, some, none}
 use mathlib.Core.List.{List, [], _∷_, _++_, map}
-use Prim.Native.Nat.{ℕ, zero, suc}
+use Prim.Native.Nat.{ℕ, zero, suc, _≤_}
 use native.Mathlib.Omega.{arith}
-use lib.ListN.{take, drop}
+use lib.ListN.{length, take, drop}
 use Rattle.rules.specs.Lists.{seek, those, any, all, Each}
 use Rattle.rules.specs.Stores.{lastOf}
 
@@ -176,15 +176,27 @@ module _ {A : Type 0} where
       go true q e ih = (h, q, f .0)
       go false q e ih = ih e (f .1)
 
-  -- those that pass: each of them has what each had
-  pub those-each : (P : A → Type 0) (p : A → Bool) (xs : List A) → Each P xs → Each P (those p xs)
+  -- those that pass: each of them has what each had, and what follows from that and from passing
+  pub those-map : (P Q : A → Type 0) (p : A → Bool) (xs : List A) → ((x : A) → p x ≡ true → P x → Q x) → Each P xs → Each Q (those p xs)
   unfolding those
-  those-each P p [] f = tt
-  those-each P p (x ∷ xs) f = go (p x) (those-each P p xs (f .1))
+  those-map P Q p [] h f = tt
+  those-map P Q p (x ∷ xs) h f = go (p x) refl (those-map P Q p xs h (f .1))
     where
-      go : (b : Bool) → Each P (those p xs) → Each P (cond b (x ∷ those p xs) (those p xs))
-      go true r = (f .0, r)
-      go false r = r
+      go : (b : Bool) → p x ≡ b → Each Q (those p xs) → Each Q (cond b (x ∷ those p xs) (those p xs))
+      go true e r = (h x e (f .0), r)
+      go false e r = r
+
+  pub those-each : (P : A → Type 0) (p : A → Bool) (xs : List A) → Each P xs → Each P (those p xs)
+  those-each P p xs f = those-map P P p xs (λ x e y. y) f
+
+  pub those-few : (p : A → Bool) (xs : List A) → length (those p xs) ≤ length xs
+  unfolding those
+  those-few p [] = omega arith
+  those-few p (x ∷ xs) = go (p x) (those-few p xs)
+    where
+      go : (b : Bool) → length (those p xs) ≤ length xs → length (cond b (x ∷ those p xs) (those p xs)) ≤ length (x ∷ xs)
+      go true r = omega arith
+      go false r = omega arith
 
   pub those-nil : (p : A → Bool) (xs : List A) → Each (λ y. p y ≡ false) xs → those p xs ≡ []
   unfolding those

@@ -1,10 +1,17 @@
--- Tilings taken apart and joined, each by induction on the list of clumps. Assumes nothing.
+-- Tilings taken apart and joined, each by induction on the list of clumps; and that no two clumps of one have their body at the same
+-- offset. Assumes nothing.
 use Prim.Native.Nat.{ℕ, _+_, _<_, _≤_}
-use mathlib.Core.Path.{refl}
+use mathlib.Core.Path.{_≡_, refl, sym, ap, subst, _∙_}
+use mathlib.Core.Bool.{Bool, false}
+use mathlib.Core.Option.{some}
 use mathlib.Core.List.{List, [], _∷_, _++_}
 use native.Mathlib.Omega.{arith}
-use Rattle.rules.specs.Lists.{Each}
-use Rattle.rules.specs.Clumps.{Head, endOf, Tiles}
+use lib.Dec.{eqb}
+use borrow.Author.Tests.{eq-eqb, ne-eqb}
+use Rattle.rules.specs.Lists.{seek, Each}
+use Rattle.rules.specs.Clumps.{Head, bodyOf, endOf, Tiles}
+use Rattle.rules.specs.Requests.{finder}
+use Rattle.laws.specs.Searches.{each-map, seek-at, seek-split}
 
 pub tiles-le : (a b : ℕ) (hs : List Head) → Tiles a hs b → a ≤ b
 tiles-le a b [] t = omega arith
@@ -31,3 +38,17 @@ tiles-in a b hs t = go a hs t (omega arith)
         let k = t .0 .least in
         let u = tiles-le (c + h .nbytes) b hs (t .1) in
         ((omega arith, omega arith, omega arith), go (c + h .nbytes) hs (t .1) (omega arith))
+
+-- so the clump behind a tiling is the first to have its body where it has
+pub tiles-found : (a : ℕ) (p : List Head) (h : Head) (q : List Head) → Tiles a p (h .at) → finder (p ++ (h ∷ q)) (bodyOf h) ≡ some h
+tiles-found a p h q t =
+    seek-at (λ k. eqb (bodyOf k) (bodyOf h)) p h q
+    (each-map (λ k. (a ≤ k .at) × (k .at < h .at) × (endOf k ≤ h .at)) (λ k. eqb (bodyOf k) (bodyOf h) ≡ false) p (λ k e. ne-eqb (bodyOf k) (bodyOf h) (omega (arith, e .1))) (tiles-in a (h .at) p t))
+    (eq-eqb (bodyOf h) (bodyOf h) refl)
+
+-- and what any search finds, the finder finds again
+pub found-again : (a b : ℕ) (hs : List Head) → Tiles a hs b → (p : Head → Bool) (h : Head) → seek p hs ≡ some h → finder hs (bodyOf h) ≡ some h
+found-again a b hs t p h e =
+    let x = seek-split p hs h e in
+    let y = tiles-split a b (x .lower) (h ∷ x .higher) (rw (x .whole) at t) in
+    ap (λ (l : List Head). finder l (bodyOf h)) (x .whole) ∙ tiles-found a (x .lower) h (x .higher) (subst (Tiles a (x .lower)) (sym (y .2 .0 .here)) (y .1))

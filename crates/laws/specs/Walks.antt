@@ -7,12 +7,12 @@ use mathlib.Core.Option.{Option, some, none, Option·map}
 use mathlib.Core.List.{List, [], _∷_}
 use native.Mathlib.Omega.{arith}
 use lib.Dec.{ltb, eqb}
-use borrow.Author.Tests.{lt-ltb, le-ltb, ltb-false, eqb-true, not-false}
+use borrow.Author.Tests.{lt-ltb, le-ltb, ltb-false, eqb-true, eq-eqb, ne-eqb, not-false}
 use Rattle.rules.specs.Lists.{seek}
 use Rattle.rules.specs.Words.{Mem}
 use Rattle.rules.specs.Pages.{clumpsAt, unit}
-use Rattle.rules.specs.Clumps.{Head, head, stateAt, leastClump, FREEING, Sits, Tiles, headsFrom, walk}
-use Rattle.rules.specs.Sound.{Fault, sizeBad, stateBad, listBad, faultOf, clumpFault, secondFault, targetFault, orElse, judge}
+use Rattle.rules.specs.Clumps.{Head, head, stateAt, endOf, leastClump, FREEING, Sits, Tiles, headsFrom, walk}
+use Rattle.rules.specs.Sound.{Fault, faultAt, sizeBad, stateBad, listBad, faultOf, clumpFault, secondFault, targetFault, orElse, judge}
 use Rattle.laws.specs.Searches.{some-none, or-neither, seek-hit, seek-pass}
 use Rattle.laws.specs.Tilings.{tiles-le}
 
@@ -42,6 +42,14 @@ rest-step {n} {a} {m} {hs} r l = go (r .steps) (r .lasts) (r .same)
     go zero g e = absurd (omega arith)
     go (suc k) g e = (headsFrom k n m (a + m a), sym e ∙ rw (lt-ltb a n l, headsFrom), λ p. record { steps = k; lasts = omega arith; same = refl })
 
+-- a size without fault
+pub size-good : (n : ℕ) (h : Head) → sizeBad n h ≡ false → (leastClump ≤ h .nbytes) × (h .nbytes % unit ≡ 0) × (endOf h ≤ n)
+unfolding sizeBad
+size-good n h e =
+    let q = or-neither _ _ e in
+    let r = or-neither _ _ (q .0) in
+    (ltb-false (h .nbytes) leastClump (r .1), eqb-true (h .nbytes % unit) 0 (not-false _ (r .0)), ltb-false n (endOf h) (q .1))
+
 -- a clump without the faults 1 to 3
 pub record Faultless (n a : ℕ) (m : Mem) : Type 0 where
   pub sits : Sits a (head m a)
@@ -53,27 +61,36 @@ cond-zero true k x e = absurd (omega arith)
 cond-zero false k x e = (refl, e)
 
 pub faultless : (n a : ℕ) (m : Mem) → faultOf n m (head m a) ≡ 0 → Faultless n a m
-unfolding faultOf sizeBad stateBad
+unfolding faultOf stateBad
 faultless n a m e =
     let p = cond-zero (sizeBad n (head m a)) 0 _ e in
-    let q = or-neither _ _ (p .0) in
-    let r = or-neither _ _ (q .0) in
+    let q = size-good n (head m a) (p .0) in
     let s = cond-zero (stateBad (head m a)) 1 _ (p .1) in
     record {
-      sits =
-          record {
-            here = refl;
-            least = ltb-false (m a) leastClump (r .1);
-            whole = eqb-true (m a % unit) 0 (not-false _ (r .0));
-            known = ltb-false FREEING (m (stateAt a)) (s .0);
-          };
-      inside = ltb-false n (a + m a) (q .1);
+      sits = record { here = refl; least = q .0; whole = q .1; known = ltb-false FREEING (m (stateAt a)) (s .0) };
+      inside = q .2;
       list = cond-zero _ 2 _ (s .1) .0;
     }
 
 -- the test of a clump for the faults 1 to 3
 abbrev pub isFaulty : ℕ → Mem → Head → Bool
 isFaulty n m h = not (eqb (faultOf n m h) 0)
+
+-- the faults 1 to 3 of the clumps that are left: at a hit, past a clump and at the end
+module _ (n : ℕ) (m : Mem) (h : Head) (hs : List Head) where
+  pub clump-hit : (f : ℕ) → f ≡ faultOf n m h → (f ≡ 0 → ⊥) → clumpFault n m (h ∷ hs) ≡ some (faultAt f h)
+  unfolding clumpFault
+  clump-hit f e g =
+      ap (Option·map (λ k. faultAt (faultOf n m k) k)) (seek-hit (isFaulty n m) h hs (rw (← e, ne-eqb f 0 g)))
+      ∙ ap (λ (k : ℕ). some (faultAt k h)) (sym e)
+
+  pub clump-pass : faultOf n m h ≡ 0 → clumpFault n m (h ∷ hs) ≡ clumpFault n m hs
+  unfolding clumpFault
+  clump-pass e = ap (Option·map (λ k. faultAt (faultOf n m k) k)) (seek-pass (isFaulty n m) h hs (rw (eq-eqb (faultOf n m h) 0 e)))
+
+pub clump-end : (n : ℕ) (m : Mem) → clumpFault n m [] ≡ none
+unfolding clumpFault seek
+clump-end n m = refl
 
 tiles-from : (k n a : ℕ) (m : Mem) → seek (isFaulty n m) (headsFrom k n m a) ≡ none → a ≤ n → n ≤ a + k → Tiles a (headsFrom k n m a) n
 unfolding headsFrom

@@ -1,7 +1,7 @@
 -- What a list of stores leaves at a word: the last store there wins, and a run of zeros leaves 0 in each of its words. By induction
 -- on the stores. Assumes nothing.
 use Prim.Native.Nat.{ℕ, zero, suc, _+_, _*_, _<_, _≤_}
-use mathlib.Core.Path.{_≡_, refl, sym, ap, _∙_}
+use mathlib.Core.Path.{_≡_, refl, sym, _∙_}
 use mathlib.Core.Bool.{true}
 use mathlib.Core.Logic.{_⊎_, inl, inr, ⊎-elim}
 use mathlib.Core.List.{List, _∷_, _++_}
@@ -31,12 +31,7 @@ leaves-last s st e m = after-spared (upd m (s .to) (s .word)) st (s .to) e ∙ u
 pub leaves-behind : (P : Mem → Type 0) (p q : List Store) → Leaves P q → Leaves P (p ++ q)
 leaves-behind P p q f m = rw (after-append m p q) (f (after m p))
 
--- a run of zeros: so many stores, and none of them outside
-pub length-zeros : (i k : ℕ) → length (zeros i k) ≡ k
-unfolding zeros
-length-zeros i zero = refl
-length-zeros i (suc k) = ap suc (length-zeros (i + wordBytes) k)
-
+-- a run of zeros: none of its stores goes outside
 pub zeros-other : (o i k : ℕ) → (o < i) ⊎ (i + wordBytes * k ≤ o) → Spares o (zeros i k)
 unfolding zeros
 zeros-other o i zero d = tt

@@ -22,10 +22,11 @@ use Rattle.word.specs.Memory.{upd-same, mem-carry, length-carry}
 use Rattle.word.specs.Blank.{blank-bytes}
 use Rattle.laws.specs.Searches.{each-append, each-take}
 use Rattle.laws.specs.OneWord.{create-aligned}
+use Rattle.laws.specs.Founding.{create-length}
 use Rattle.laws.specs.Pools.{right-length}
 use Rattle.loss.specs.Held.{Held, held-walk, idle-sound}
 use Rattle.loss.specs.Redo.{Other, Spares, after-spared}
-use Rattle.loss.specs.Blanked.{Leaves, At, leaves-last, leaves-behind, length-zeros, zeros-other, zeros-first, zeros-blank, zero-slice}
+use Rattle.loss.specs.Blanked.{Leaves, At, leaves-last, leaves-behind, zeros-other, zeros-first, zeros-blank, zero-slice}
 
 -- the stores of a create on n bytes from the clump's state on, from its nbytes on, from the padding on, from the page on and from the
 -- static area on; e is what comes last
@@ -77,13 +78,10 @@ blanking-other n =
     each-append (Other headerAt) (zeros staticAt (pageBytes / wordBytes)) (paging n [])
     (zeros-other headerAt staticAt (pageBytes / wordBytes) (inr (omega arith))) (paging-other n headerAt [] tt (omega arith))
 
--- how many they are
-blanking-length : (n : ℕ) (e : List Store) → length (blanking n e) ≡ createCount - 2 + length e
-blanking-length n e = simp (length-append, length-zeros) (omega arith)
-
-create-length : (n : ℕ) → length (createStores n) ≡ createCount
+-- how many there are between the first and the last
+blanking-length : (n : ℕ) → length (blanking n []) ≡ createCount - 2
 unfolding createStores
-create-length n = ap suc (blanking-length n sealing)
+blanking-length n = omega (arith, create-length n, ap length (blanking-seals n sealing), length-append (blanking n []) sealing)
 
 -- 0 in the first word of the signature makes no pool
 low-not-zero : 0 ≡ signatureLow → ⊥
@@ -99,7 +97,7 @@ cut-low : (n k : ℕ) (m : Mem) → 0 < k → k < createCount → after m (take 
 unfolding after createStores
 cut-low n zero m p l = absurd (omega arith)
 cut-low n (suc k) m p l =
-    rw (blanking-seals n sealing, take-append-le k (blanking n []) sealing (omega (arith, blanking-length n [])))
+    rw (blanking-seals n sealing, take-append-le k (blanking n []) sealing (omega (arith, blanking-length n)))
     (after-spared (upd m headerAt 0) (take k (blanking n [])) headerAt (each-take (Other headerAt) k (blanking n []) (blanking-other n)) ∙ upd-same m headerAt 0)
 
 -- "Cut after 1 to 1,032, the image is no pool"

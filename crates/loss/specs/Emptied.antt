@@ -39,7 +39,7 @@ same-above : (m : Mem) (s : ℕ) (sl : List ℕ) → Each (λ t. s + 16 ≤ t) s
 same-above m s [] f = tt
 same-above m s (t ∷ sl) f =
     let l = f .0 in
-    ((upd-other m s 0 t (omega arith), upd-other m s 0 (valueAt t) (omega arith)), same-above m s sl (f .1))
+    ((upd-other m s 0 t (omega arith), λ w. upd-other m s 0 (valueAt t) (omega arith)), same-above m s sl (f .1))
 
 -- the entries that are left after the first j
 abbrev left : Mem → List ℕ → List Store

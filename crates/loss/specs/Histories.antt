@@ -22,8 +22,9 @@ use Rattle.rules.specs.Demands.{Settled, Alike}
 use Rattle.rules.specs.PowerLoss.{AlwaysTiles, StaysSettled, ReadsAs}
 use Rattle.word.specs.Memory.{length-carry, bytes-carry}
 use Rattle.laws.specs.Searches.{or-neither, any-none, none-any, each-map}
-use Rattle.laws.specs.Headers.{pool-same, judge-same, walk-same}
-use Rattle.laws.specs.Independence.{above-within, agree-page, agree-headers}
+use Rattle.laws.specs.Headers.{pool-same}
+use Rattle.laws.specs.Verdicts.{judge-same, walk-same}
+use Rattle.laws.specs.Independence.{not-within, agree-page, agree-up-to}
 use Rattle.laws.specs.Pools.{Sound, pool-right}
 use Rattle.loss.specs.Held.{sound-held, idle-sound}
 use Rattle.loss.specs.Fates.{Kept, Owned, Rests, Led}
@@ -114,23 +115,25 @@ asked-serves img Check s u = finished-serves img Check s u refl
 asked-serves img Recover s u = finished-serves img Recover s u refl
 
 -- the owner's writes
-bare-closed : (hs : List Head) (i : ℕ) → hidden hs i ≡ false → mayWrite hs i ≡ false
+bare-closed : (m : Mem) (hs : List Head) (i : ℕ) → hidden m hs i ≡ false → mayWrite hs i ≡ false
 unfolding hidden inPart
-bare-closed hs i e =
+bare-closed m hs i e =
     let f = or-neither (ltb i headerAt) _ e in
     let l = ltb-false i headerAt (f .0) in
     rw (
-      above-within staticAt staticEnd i (omega arith),
+      not-within staticAt staticEnd i (λ p q. omega arith),
       none-any (λ h. isWaiting h && within (bodyOf h) (endOf h) i) hs
-          (each-map (λ h. within (bodyOf h) (endOf h) i ≡ false) (λ h. (isWaiting h && within (bodyOf h) (endOf h) i) ≡ false) hs (λ h g. rw g (and-false (isWaiting h))) (any-none (λ h. within (bodyOf h) (endOf h) i) hs (f .1))),
+          (each-map _ (λ h. (isWaiting h && within (bodyOf h) (endOf h) i) ≡ false) hs
+          (λ h g. let z : within (bodyOf h) (endOf h) i ≡ false = or-neither _ _ (or-neither _ _ g .0) .0 in
+          rw z (and-false (isWaiting h))) (any-none _ hs (f .1))),
     )
 
 wrote-serves : (img x : Image) → Serves img → Wrote img x → Serves x
 wrote-serves img x s w =
     let n = length img in
-    let a : Alike img x = record { long = w .long; same = λ i e. w .only i (bare-closed (clumpsOf img) i e) } in
+    let a : Alike img x = record { long = w .long; same = λ i e. w .only i (bare-closed (mem img) (clumpsOf img) i e) } in
     let page = agree-page img x a in
-    let heads = agree-headers img x a in
+    let heads = agree-up-to img x a in
     let l = w .long in
     record {
       bytes = w .bytes;
@@ -138,7 +141,7 @@ wrote-serves img x s w =
           record {
             pool = rw (l, pool-same n (mem img) (mem x) page) (s .settled .pool);
             sound = rw (l, judge-same n (mem img) (mem x) page heads) (s .settled .sound);
-            calm = rw (l, walk-same n (mem img) (mem x) page heads) (s .settled .calm);
+            calm = rw (l, walk-same n (mem img) (mem x) page heads (s .settled .sound)) (s .settled .calm);
           };
     }
 

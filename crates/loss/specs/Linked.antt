@@ -1,10 +1,9 @@
--- The customer's sentence: after any cut of an activation, and recovery, the words that the list names hold all of the listed values or
--- all of their old ones. The first store decides: before it the words are as they were, after it recovery makes every assignment, and
+-- The customer's sentence: after any cut of an activation, and recovery, the words that the list names hold all of their old values if no
+-- store was made, and all of the listed ones if any was. The first store decides: before it the words are as they were, after it recovery makes every assignment, and
 -- no store of either but the assignments reaches a body or the static area. Assumes nothing.
 use Prim.Native.Nat.{ℕ, zero, suc, _<_}
 use mathlib.Core.Path.{_≡_, refl, sym, ap, subst, _∙_}
 use mathlib.Core.Bool.{true, not}
-use mathlib.Core.Logic.{_⊎_, inl, inr}
 use mathlib.Core.Option.{Option, some, none}
 use mathlib.Core.List.{List, [], _∷_, _++_}
 use native.Mathlib.Omega.{arith}
@@ -142,15 +141,15 @@ module _ (img : Image) (offset : ℕ) (h : Head) (s : Serves img) (e : finder (c
 
 pub all-or-none : AllOrNone
 unfolding carry
-all-or-none img y offset k r a c d = go (finder (clumpsOf img) offset) refl d k c
+all-or-none img y offset k r a c = go (finder (clumpsOf img) offset) refl k c
   where
     go :
         (o : Option Head)
         → finder (clumpsOf img) offset ≡ o
-        → Distinct (entriesOf (mem img) o)
         → (k : ℕ)
         → Recovering (cut img (Activate offset) k) y
-        → Each (λ t. mem (finished y Recover) (t .to) ≡ t .word) (entriesOf (mem img) o) ⊎ Each (λ t. mem (finished y Recover) (t .to) ≡ mem img (t .to)) (entriesOf (mem img) o)
-    go none e d k c = inl tt
-    go (some h) e d zero c = inr (none-held img offset h (serves img r) e a y c)
-    go (some h) e d (suc j) c = inl (all-held img offset h (serves img r) e a j y c d)
+        → (k ≡ 0 → Each (λ t. mem (finished y Recover) (t .to) ≡ mem img (t .to)) (entriesOf (mem img) o))
+        × (0 < k → Distinct (entriesOf (mem img) o) → Each (λ t. mem (finished y Recover) (t .to) ≡ t .word) (entriesOf (mem img) o))
+    go none e k c = ((λ z. tt), λ l d. tt)
+    go (some h) e zero c = ((λ z. none-held img offset h (serves img r) e a y c), λ l. absurd (omega arith))
+    go (some h) e (suc j) c = ((λ z. absurd (omega arith)), λ l d. all-held img offset h (serves img r) e a j y c d)

@@ -4,14 +4,14 @@ use Prim.Native.Nat.{ℕ}
 use mathlib.Core.Path.{_≡_, refl}
 use mathlib.Core.Bool.{Bool, true, false, cond, _&&_, _||_, or-true}
 use mathlib.Core.List.{List, [], _∷_, _++_, map}
-use borrow.Author.Tests.{eqb-true}
 use Rattle.rules.specs.Lists.{those, any, Each}
 use Rattle.rules.specs.Words.{Mem, after}
 use Rattle.rules.specs.Pages.{clumpsAt, staticAt, staticEnd}
-use Rattle.rules.specs.Clumps.{Head, bodyOf, endOf, hasState, isLive, entries, ACTIVE, ACTIVATING, Tiles, walk}
+use Rattle.rules.specs.Clumps.{Head, bodyOf, endOf, isLive, entries, Tiles, walk}
 use Rattle.rules.specs.Reading.{within, inPart}
 use Rattle.laws.specs.Searches.{each-map}
 use Rattle.laws.specs.Pools.{Sound}
+use Rattle.laws.specs.Verdicts.{either-live}
 use Rattle.laws.specs.Bodies.{Off, off}
 use Rattle.loss.specs.Held.{Held, Idle, Pends, Stands, rests, pends, idle-sound, pends-sound, sound-stands}
 use Rattle.loss.specs.Fates.{Kept, isKept, keptOf, fates, Beyond, Owned, Rests, Leads, Led, resting, leading}
@@ -22,11 +22,7 @@ inBody o h = isLive h && within (bodyOf h) (endOf h) o
 
 -- a kept clump is live
 kept-live : (h : Head) → isKept h ≡ true → isLive h ≡ true
-kept-live h e = go (hasState ACTIVE h) refl e
-  where
-    go : (b : Bool) → hasState ACTIVE h ≡ b → (b || hasState ACTIVATING h) ≡ true → isLive h ≡ true
-    go true q f = let z = eqb-true (h .state) ACTIVE q in rw z
-    go false q f = let z = eqb-true (h .state) ACTIVATING f in rw z
+kept-live h e = either-live 2 1 h e
 
 -- so that a kept body is a live one's
 kept-body : (m : Mem) (hs : List Head) (o : ℕ) → any (λ c. within (bodyOf (c .clump)) (endOf (c .clump)) o) (fates m hs) ≡ true → any (inBody o) hs ≡ true

@@ -15,7 +15,7 @@ use Rattle.word.specs.Memory.{upd-same, upd-other}
 use Rattle.laws.specs.Searches.{each-append, each-left, each-right}
 use Rattle.laws.specs.Tilings.{tiles-le, tiles-split, tiles-join}
 use Rattle.laws.specs.Walks.{Reads}
-use Rattle.laws.specs.Headers.{Agree, AgreePage, SameSlots, slots-same, list-same, pool-same}
+use Rattle.laws.specs.Headers.{Agree, AgreePage, SameSlot, SameSlots, each-slot, slots-same, list-same, pool-same}
 use Rattle.laws.specs.Stored.{withState, reads-append, reads-left, reads-right}
 use Rattle.loss.specs.Held.{Held, Idle}
 use Rattle.loss.specs.Fates.{Kept, fates, fates-append, fates-agree, Beyond, Rests}
@@ -29,10 +29,8 @@ one-store m c d i w l u o e = upd-other m i w o (λ z. ⊎-elim (λ x. absurd (o
 
 -- a store to the size or to the state leaves the list
 pub front-slots : (m : Mem) (a i s : ℕ) → i < a + 16 → SameSlots m (upd m i s) (slots a)
-front-slots m a i s l = (
-  (upd-other m i s _ (omega arith), upd-other m i s _ (omega arith)),
-  ((upd-other m i s _ (omega arith), upd-other m i s _ (omega arith)), ((upd-other m i s _ (omega arith), upd-other m i s _ (omega arith)), tt)),
-)
+front-slots m a i s l =
+    each-slot (SameSlot m (upd m i s)) a (λ k y z. (upd-other m i s _ (omega arith), λ w. upd-other m i s _ (omega arith)))
 
 agree-below : (a c d : ℕ) (m x : Mem) (p : List Head) → Tiles a p c → Elsewhere c d m x → Agree m x p
 agree-below a c d m x [] t e = tt
@@ -60,7 +58,7 @@ reads-agree m x (h ∷ hs) g r =
 
 pub lists-agree : (n : ℕ) (m x : Mem) (hs : List Head) → Agree m x hs → Each (λ h. listBad n m h ≡ false) hs → Each (λ h. listBad n x h ≡ false) hs
 lists-agree n m x [] g e = tt
-lists-agree n m x (h ∷ hs) g e = (list-same n m x hs h (slots-same m x (h .at) (g .0)) ∙ e .0, lists-agree n m x hs (g .1) (e .1))
+lists-agree n m x (h ∷ hs) g e = (list-same n m x h (λ w. slots-same m x (h .at) (g .0)) ∙ e .0, lists-agree n m x hs (g .1) (e .1))
 
 -- a part of the clumps, from c up to d, between p and q
 pub record Parted (n : ℕ) (p : List Head) (c : ℕ) (mid : List Head) (d : ℕ) (q : List Head) : Type 0 where

@@ -1,5 +1,6 @@
 -- Reserve, cut after any store: what it stores lies in one FREE clump, which recovery does not keep. The rest's header and the emptied
--- targets are words that nobody reads; the smaller nbytes splits the clump in two; the state comes last. Assumes nothing.
+-- targets are words that nobody reads; the smaller nbytes splits the clump in two; the state comes last. No store reaches the body that it
+-- leaves. Assumes nothing.
 use Prim.Native.Nat.{ℕ, _+_, _-_, _%_, _<_, _≤_}
 use mathlib.Core.Path.{_≡_, refl, sym, ap, subst, _∙_}
 use mathlib.Core.Bool.{Bool, true, false, not}
@@ -8,15 +9,17 @@ use mathlib.Core.List.{List, [], _∷_, _++_, map}
 use native.Mathlib.Omega.{arith}
 use lib.Dec.{eqb, leb}
 use borrow.Author.Tests.{eqb-true, leb-true}
+use Rattle.rules.specs.Lists.{Each}
 use Rattle.rules.specs.Words.{Mem, Store, store, upd, after}
 use Rattle.rules.specs.Pages.{unit}
-use Rattle.rules.specs.Clumps.{Head, endOf, stateAt, isFree, isUsed, slots, entry, entries, leastClump, FREE, RESERVED}
+use Rattle.rules.specs.Clumps.{Head, bodyOf, endOf, stateAt, isFree, isUsed, slots, entry, entries, leastClump, FREE, RESERVED}
 use Rattle.rules.specs.Sound.{touching, listBad}
 use Rattle.rules.specs.Stores.{emptying, setState, leastRest, reserveStores}
 use Rattle.word.specs.Memory.{upd-same, upd-other}
 use Rattle.laws.specs.Searches.{each-right, those-nil}
 use Rattle.laws.specs.Headers.{entries-same}
 use Rattle.laws.specs.Stored.{withState, reads-right}
+use Rattle.laws.specs.Named.{Miss}
 use Rattle.loss.specs.Orders.{reserveOrder}
 use Rattle.loss.specs.Fates.{Kept, fates-none, Beyond, Rests}
 use Rattle.loss.specs.Parts.{one-store, front-slots, parted-one, replaced}
@@ -42,6 +45,7 @@ pub record Reserved (n : ℕ) (D : ℕ → Type 0) (k : List Kept) (w m : Mem) (
   pub state : clump .state ≡ RESERVED
   pub comes : Comes n D k w m (reserveOrder need h) (p ++ (clump ∷ above))
   pub calm : touching (p ++ (h ∷ q)) ≡ false → touching (p ++ (clump ∷ above)) ≡ false
+  pub spared : (i : ℕ) → bodyOf clump ≤ i → i < endOf clump → Each (Miss i) (reserveOrder need h)
 
 -- a FREE clump h, which no place of D lies in
 module _ (n : ℕ) (D : ℕ → Type 0) (k : List Kept) (w : Mem) (p : List Head) (h : Head) (q : List Head) (free : isFree h ≡ true) (clear : (o : ℕ) → D o → (o < h .at) ⊎ (endOf h ≤ o)) where
@@ -174,6 +178,10 @@ module _ (n : ℕ) (D : ℕ → Type 0) (k : List Kept) (w : Mem) (p : List Head
       (comes-store n D k w m6 _ [] (p ++ (fore need ∷ rest need ∷ q)) ends f6
       (comes-none n D k w _ ends (takes m6 (fore need) (rest need ∷ q) refl refl none f6))))))
 
+  -- a byte of the body, which the targets lie below
+  head-spared : (st : List Store) (i : ℕ) → bodyOf h ≤ i → Each (Miss i) st → Each (Miss i) (emptying (slots a) ++ st)
+  head-spared st i c f = (inr (omega arith), (inr (omega arith), (inr (omega arith), f)))
+
   -- both
   pub reserves : (m : Mem) (need : ℕ) → need % unit ≡ 0 → leastClump ≤ need → need ≤ h .nbytes → Rests n D k w m (p ++ (h ∷ q)) → Reserved n D k w m p h q need
   unfolding reserveOrder reserveStores
@@ -191,6 +199,7 @@ module _ (n : ℕ) (D : ℕ → Type 0) (k : List Kept) (w : Mem) (p : List Head
             state = refl;
             comes = rw z (part-taken m need e l (omega arith) f);
             calm = touching-split p h (withState (fore need) RESERVED) (rest need) q free refl refl;
+            spared = λ i c d. rw z (inl (omega arith), (inl (omega arith), head-spared (store a need ∷ setState h RESERVED ∷ []) i c (inr (omega arith), (inr (omega arith), tt))));
           }
       go false z =
           record {
@@ -202,4 +211,5 @@ module _ (n : ℕ) (D : ℕ → Type 0) (k : List Kept) (w : Mem) (p : List Head
             state = refl;
             comes = rw z (whole-taken m f);
             calm = touching-taken p h (withState h RESERVED) q refl;
+            spared = λ i c d. rw z (head-spared (setState h RESERVED ∷ []) i c (inr (omega arith), tt));
           }

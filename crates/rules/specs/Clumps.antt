@@ -72,8 +72,11 @@ abbrev pub isPending : Head → Bool
 isPending h = hasState ACTIVATING h || hasState FREEING h
 
 -- "Offsets 16, 32 and 48 hold the three entries of the on-list, each a target word and then a value word"
+abbrev pub listStart : ℕ → ℕ
+listStart a = a + 16
+
 abbrev pub slots : ℕ → List ℕ
-slots a = (a + 16) ∷ (a + 32) ∷ (a + 48) ∷ []
+slots a = listStart a ∷ (a + 32) ∷ (a + 48) ∷ []
 
 abbrev pub valueAt : ℕ → ℕ
 valueAt s = s + wordBytes

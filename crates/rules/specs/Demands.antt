@@ -1,7 +1,7 @@
 -- What is promised of a request, as named statements: the first two demands, and the sentences of 01 that speak of all requests at
 -- once. PowerLoss has the third demand.
 -- Nothing is proved here: the crate that proves a statement has a value of that very type. Assumes nothing.
-use Prim.Native.Nat.{ℕ, _+_, _-_, _<_, _≤_}
+use Prim.Native.Nat.{ℕ, _+_, _-_, _*_, _<_, _≤_}
 use mathlib.Core.Path.{_≡_}
 use mathlib.Core.Bool.{true, false, cond}
 use mathlib.Core.Logic.{_↔_, _⊎_}
@@ -17,7 +17,7 @@ use Rattle.rules.specs.Pages.{isPool, clumpsAt}
 use Rattle.rules.specs.Clumps.{Head, bodyOf, endOf, FREE, RESERVED, ACTIVE, hasState, isLive, isPending, entries}
 use Rattle.rules.specs.Sound.{judge, unsettled}
 use Rattle.rules.specs.Answers.{done, notSound, noRoom, cutShort}
-use Rattle.rules.specs.Stores.{needOf, fits}
+use Rattle.rules.specs.Stores.{createCount, needOf, leastRest}
 use Rattle.rules.specs.Requests.{Numbers, Does, cut, finished, finder, storesFor, answerOn, totalsOn}
 use Rattle.rules.specs.Reading.{clumpsOf, within, inPart, hidden, inSparePage}
 use Rattle.rules.specs.Traces.{isCreate}
@@ -66,12 +66,21 @@ NoRoom =
     → (answerOn img (Reserve size) fuse .answer ≡ noRoom)
     ↔ Each (λ h. h .state ≡ FREE → h .nbytes < needOf size) (clumpsOf img)
 
--- "first fit": the clump that is chosen is large enough and FREE, and none before it is
+-- Demand 2: "first fit". "The scan stops at the first FREE clump with nbytes at least need": a reserve that is done answers with the
+-- body of a clump of the walk that is FREE and large enough, and no FREE one before it is
 abbrev pub FirstFit : Type 0
 FirstFit =
-    (need : ℕ) (hs : List Head) (h : Head)
-    → seek (fits need) hs ≡ some h
-    → (lower higher : List Head) × (hs ≡ lower ++ (h ∷ higher)) × Each (λ k. fits need k ≡ false) lower × (fits need h ≡ true)
+    (img : Image) (size fuse : ℕ)
+    → let r = answerOn img (Reserve size) fuse in
+    r .answer ≡ done
+    → (lower : List Head)
+    × (h : Head)
+    × (higher : List Head)
+    × (clumpsOf img ≡ lower ++ (h ∷ higher))
+    × (r .place ≡ bodyOf h)
+    × (h .state ≡ FREE)
+    × (needOf size ≤ h .nbytes)
+    × Each (λ k. k .state ≡ FREE → k .nbytes < needOf size) lower
 
 -- two clumps share no byte
 abbrev pub Apart : Head → Head → Type 0
@@ -89,6 +98,18 @@ Fresh =
     × (h .state ≡ RESERVED)
     × (bodyOf h + size ≤ endOf h)
     × Each (λ k. isLive k ≡ true → Apart h k) (clumpsOf img)
+
+-- "The body isn't cleared.": every byte of a body that was reserved is what it was
+abbrev pub NotCleared : Type 0
+NotCleared =
+    (img : Image) (size fuse i : ℕ) (h : Head)
+    → let r = answerOn img (Reserve size) fuse in
+    let x = finished img (Reserve size) in
+    Bytes img
+    → r .answer ≡ done
+    → finder (clumpsOf x) (r .place) ≡ some h
+    → within (bodyOf h) (endOf h) i ≡ true
+    → getD x i 0 ≡ getD img i 0
 
 -- the list that a request carries out, if it is granted
 abbrev pub entriesOf : Mem → Option Head → List Store
@@ -109,6 +130,26 @@ carriedOut m hs (Activate o) = entriesIf RESERVED m (finder hs o)
 carriedOut m hs (Free o) = entriesIf ACTIVE m (finder hs o)
 carriedOut m hs Check = []
 carriedOut m hs Recover = entriesOf m (seek isPending hs)
+
+-- How many stores a request makes that is done. Create: "1,033 stores." Reserve: "With a rest of 128 or more .. 7 stores. With a
+-- smaller rest .. 4 stores." Onactive and onfree: "value, then target". Withdraw: "0 to the last used target". Activate: "With e entries
+-- this makes 2 + 2e stores, 8 at most." Free: "At most 7 stores." Of recover no number is given.
+abbrev pub Counted : Image → Request → Answer → Type 0
+Counted img Create r = r .stores ≡ createCount
+Counted img (Reserve size) r =
+    (h : Head)
+    × (finder (clumpsOf img) (r .place) ≡ some h)
+    × ((needOf size + leastRest ≤ h .nbytes → r .stores ≡ 7) × (h .nbytes < needOf size + leastRest → r .stores ≡ 4))
+Counted img (Onactive o t v) r = r .stores ≡ 2
+Counted img (Onfree o t v) r = r .stores ≡ 2
+Counted img (Withdraw o) r = r .stores ≡ 1
+Counted img (Activate o) r = (r .stores ≡ 2 + 2 * length (entriesOf (mem img) (finder (clumpsOf img) o))) × (r .stores ≤ 8)
+Counted img (Free o) r = r .stores ≤ 7
+Counted img Check r = r .stores ≡ 0
+Counted img Recover r = Unit {0}
+
+abbrev pub Counts : Type 0
+Counts = (img : Image) (q : Request) (fuse : ℕ) → let r = answerOn img q fuse in r .answer ≡ done → Counted img q r
 
 -- Demand 2: "bodies and static area change only at the words named in the list being carried out"
 abbrev pub OnlyNamed : Type 0
@@ -133,13 +174,14 @@ TotalsAdd =
     answerOn img Check fuse .answer ≡ done
     → t .free + t .reserved + t .activating + t .active + t .freeing ≡ length img - clumpsAt
 
--- two images that differ only in bodies, in the static area and in pages 0 and 8192
+-- two images that differ only in bodies, in the static area, in pages 0 and 8192, in the lists of FREE clumps and in the values of
+-- empty entries
 pub record Alike (img x : Image) : Type 0 where
   pub long : length x ≡ length img
-  pub same : (i : ℕ) → hidden (clumpsOf img) i ≡ false → getD x i 0 ≡ getD img i 0
+  pub same : (i : ℕ) → hidden (mem img) (clumpsOf img) i ≡ false → getD x i 0 ≡ getD img i 0
 
 -- "No answer depends on a body byte, on the static area or on pages 0 and 8192. Two images that differ only there get equal
--- answers, places and counts."
+-- answers, places and counts." "The list of a FREE clump and the value of an empty entry mean nothing."
 abbrev pub Independent : Type 0
 Independent =
     (img x : Image) (q : Request) (fuse : ℕ)

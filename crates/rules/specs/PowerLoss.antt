@@ -3,7 +3,6 @@
 use Prim.Native.Nat.{ℕ, suc, _-_, _<_, _≤_}
 use mathlib.Core.Path.{_≡_}
 use mathlib.Core.Bool.{true, false}
-use mathlib.Core.Logic.{_⊎_}
 use mathlib.Core.Option.{none}
 use mathlib.Core.List.{List, [], _∷_}
 use lib.ListN.{length, replicate}
@@ -71,7 +70,7 @@ Distinct [] = Unit {0}
 Distinct (s ∷ st) = Each (λ t. s .to ≡ t .to → ⊥) st × Distinct st
 
 -- the customer's sentence: after any cut of an activation that is accepted, and recovery, the words that the clump's list names all
--- hold the listed values, or all hold what they held before
+-- hold the listed values, or all hold what they held before: the latter exactly where no store was made
 abbrev pub AllOrNone : Type 0
 AllOrNone =
     (img x : Image) (offset k : ℕ)
@@ -80,5 +79,5 @@ AllOrNone =
     Ready img
     → Accepted img (Activate offset)
     → Recovering (cut img (Activate offset) k) x
-    → Distinct st
-    → Each (λ s. mem y (s .to) ≡ s .word) st ⊎ Each (λ s. mem y (s .to) ≡ mem img (s .to)) st
+    → (k ≡ 0 → Each (λ s. mem y (s .to) ≡ mem img (s .to)) st)
+    × (0 < k → Distinct st → Each (λ s. mem y (s .to) ≡ s .word) st)

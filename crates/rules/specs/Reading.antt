@@ -1,15 +1,15 @@
 -- The pool's reading, byte for byte (01, "Stores and the fuse"), and the parts of an image that are the owner's.
 -- Assumes nothing.
-use Prim.Native.Nat.{ℕ}
+use Prim.Native.Nat.{ℕ, _+_}
 use mathlib.Core.Bool.{Bool, _&&_, _||_}
 use mathlib.Core.List.{List, map}
 use lib.Dec.{leb, ltb}
 use lib.ListN.{length}
 use lib.Seq.{slice}
 use Rattle.rules.specs.Lists.{those, any}
-use Rattle.rules.specs.Words.{Image, Store, mem}
+use Rattle.rules.specs.Words.{Image, Mem, Store, mem, wordBytes}
 use Rattle.rules.specs.Pages.{staticAt, staticEnd, headerAt, clumpsAt}
-use Rattle.rules.specs.Clumps.{Head, Tiles, bodyOf, endOf, isLive, isWaiting, entries, walk}
+use Rattle.rules.specs.Clumps.{Head, Tiles, bodyOf, endOf, isFree, isLive, isWaiting, isEmpty, listStart, slots, valueAt, entries, walk}
 
 -- the clumps of an image
 abbrev pub clumpsOf : Image → List Head
@@ -27,14 +27,19 @@ pub record Reading : Type 0 where
   pub static : List ℕ
   pub bodies : List (List ℕ)
 
-unfoldable pub reading : Image → Reading
-reading img =
+-- of the clumps hs, the memory m, and what stands from one offset up to another
+abbrev pub readingBy : List Head → Mem → (ℕ → ℕ → List ℕ) → Reading
+readingBy hs m part =
     record {
-      clumps = clumpsOf img;
-      lists = map (λ h. entries (mem img) (h .at)) (those isWaiting (clumpsOf img));
-      static = slice staticAt staticEnd img;
-      bodies = map (λ h. slice (bodyOf h) (endOf h) img) (those isLive (clumpsOf img));
+      clumps = hs;
+      lists = map (λ h. entries m (h .at)) (those isWaiting hs);
+      static = part staticAt staticEnd;
+      bodies = map (λ h. part (bodyOf h) (endOf h)) (those isLive hs);
     }
+
+-- of an image, byte for byte
+unfoldable pub reading : Image → Reading
+reading img = readingBy (clumpsOf img) (mem img) (λ a b. slice a b img)
 
 -- the byte at i lies in a up to b
 abbrev pub within : ℕ → ℕ → ℕ → Bool
@@ -48,9 +53,17 @@ inPart p hs i = within staticAt staticEnd i || any (λ h. p h && within (bodyOf 
 abbrev pub mayWrite : List Head → ℕ → Bool
 mayWrite = inPart isWaiting
 
--- "a body byte, .. the static area or .. pages 0 and 8192": these three pages lie below the header
-unfoldable pub hidden : List Head → ℕ → Bool
-hidden hs i = ltb i headerAt || any (λ h. within (bodyOf h) (endOf h) i) hs
+-- "The list of a FREE clump and the value of an empty entry mean nothing."
+abbrev pub inFreeList : Head → ℕ → Bool
+inFreeList h i = isFree h && within (listStart (h .at)) (bodyOf h) i
+
+abbrev pub inEmptyValue : Mem → Head → ℕ → Bool
+inEmptyValue m h i = any (λ s. isEmpty m s && within (valueAt s) (valueAt s + wordBytes) i) (slots (h .at))
+
+-- "a body byte, .. the static area or .. pages 0 and 8192": these three pages lie below the header. And what means nothing.
+unfoldable pub hidden : Mem → List Head → ℕ → Bool
+hidden m hs i =
+    ltb i headerAt || any (λ h. within (bodyOf h) (endOf h) i || inFreeList h i || inEmptyValue m h i) hs
 
 -- | 0 and 8192 | 4,096 bytes each, never read or written |: the page below the static area, and the one behind it
 unfoldable pub inSparePage : ℕ → Bool

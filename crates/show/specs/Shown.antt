@@ -6,14 +6,13 @@ use mathlib.Core.Bool.{Bool, true, false, cond}
 use mathlib.Core.List.{List, [], _∷_, _++_}
 use native.Mathlib.Omega.{arith}
 use lib.Dec.{leb, ltb}
-use borrow.Author.Tests.{le-ltb, le-leb, lt-leb, leb-true, leb-false, eq-eqb, eqb-true, not-false}
+use borrow.Author.Tests.{le-ltb, le-leb, lt-leb, leb-true, leb-false, eq-eqb}
 use Rattle.rules.specs.Words.{Mem, wordBytes}
 use Rattle.rules.specs.Pages.{unit, clumpsAt}
 use Rattle.rules.specs.Clumps.{Head, Tiles, headerBytes, leastClump, endOf, head, headsFrom, walk}
 use Rattle.rules.specs.Sound.{sizeBad}
-use Rattle.laws.specs.Searches.{or-neither}
 use Rattle.laws.specs.Tilings.{tiles-le}
-use Rattle.judge.specs.Judging.{size-good}
+use Rattle.laws.specs.Walks.{size-good}
 use Rattle.line.specs.Texts.{clumpText}
 
 -- at its end, or at the image's where its size is at fault
@@ -46,11 +45,6 @@ pub onward-goes : (n : ℕ) (h : Head) → sizeBad n h ≡ false → endOf h ≡
 unfolding onward
 onward-goes n h e = rw e
 
--- a size without fault is a multiple of 64
-size-whole : (n : ℕ) (h : Head) → sizeBad n h ≡ false → h .nbytes % unit ≡ 0
-unfolding sizeBad
-size-whole n h e = eqb-true _ _ (not-false _ (or-neither _ _ (or-neither _ _ e .0) .0))
-
 -- on any bytes: further on
 onward-further : (n : ℕ) (h : Head) → h .at < n → h .at < onward n h
 unfolding onward
@@ -67,7 +61,7 @@ onward-even n h a = go (sizeBad n h) refl
   where
     go : (t : Bool) → sizeBad n h ≡ t → cond t n (endOf h) < n → cond t n (endOf h) % wordBytes ≡ 0
     go true p l = absurd (omega arith)
-    go false p l = omega (arith, size-whole n h p)
+    go false p l = omega (arith, size-good n h p)
 
 pub onward-on :
     (n : ℕ) (h : Head) (r : ℕ)

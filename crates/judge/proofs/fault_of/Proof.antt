@@ -3,7 +3,8 @@ use mathlib.Core.Path.{sym, _∙_}
 use mathlib.Core.Bool.{true, false}
 use native.Mathlib.Omega.{arith}
 use borrow.Author.Tests.{not-true, not-false}
-use Rattle.judge.specs.Judging.{size-good, fault-size, fault-state, fault-idle, fault-list}
+use Rattle.laws.specs.Walks.{size-good}
+use Rattle.judge.specs.Judging.{fault-size, fault-state, fault-idle, fault-list}
 use borrow.Author.Needs.{needs}
 use Rattle.judge.proofs.fault_of.Statement.{statement}
 use Rattle.judge.proofs.fault_of.Tie as tie

@@ -7,9 +7,8 @@ use Rattle.rules.specs.Reading.{clumpsOf}
 use Rattle.laws.specs.Walking.{Walking, walking-start, walking-end, walking-hit, walking-move}
 use mathlib.Core.Path.{ap, sym, _∙_}
 use Rattle.rules.specs.Sound.{clumpFault}
-use Rattle.laws.specs.Walks.{faultless}
+use Rattle.laws.specs.Walks.{faultless, clump-hit, clump-pass, clump-end}
 use Rattle.judge.specs.Forms.{judgedOf}
-use Rattle.judge.specs.Judging.{clump-hit, clump-pass, clump-end}
 use Rattle.judge.proofs.first_fault.Statement.{statement}
 use Rattle.judge.proofs.first_fault.Tie as tie
 

@@ -1,0 +1,86 @@
+-- How many stores a request makes that is done: as many as its grant has, since the fuse has lasted. By the lists as the rules spell
+-- them. Assumes nothing.
+use Prim.Native.Nat.{ℕ, _+_, _-_, _*_, _<_, _≤_}
+use mathlib.Core.Path.{_≡_, sym, ap, subst, _∙_}
+use mathlib.Core.Bool.{Bool, true, false, cond}
+use mathlib.Core.Option.{Option, some, none}
+use mathlib.Core.List.{List, [], _∷_, _++_}
+use native.Mathlib.Omega.{arith}
+use lib.ListN.{length, length-append, length-map}
+use borrow.Author.Tests.{le-leb, lt-leb}
+use Rattle.rules.specs.declared.Request.{Request}
+use Rattle.rules.specs.declared.Request.the-variants.{Create, Reserve, Onactive, Onfree, Withdraw, Activate, Free, Check, Recover}
+use Rattle.rules.specs.Words.{Image, Mem, Store, mem}
+use Rattle.rules.specs.Pages.{clumpsAt}
+use Rattle.rules.specs.Clumps.{Head, hasState, isUsed, slots, usedSlots, entry, entries, FREE, ACTIVE, FREEING}
+use Rattle.rules.specs.Answers.{answerAt}
+use Rattle.rules.specs.Stores.{setState, leastRest, reserveStores, finishActivating, finishFreeing, activateStores, dropStores, joinBefore, joinBoth, freeAfter, freeBefore, freeStores, needOf, fits}
+use Rattle.rules.specs.Reading.{clumpsOf}
+use Rattle.rules.specs.Demands.{Counted, Counts}
+use Rattle.laws.specs.Searches.{those-few}
+use Rattle.laws.specs.Tilings.{found-again}
+use Rattle.laws.specs.Pools.{pool-tiles}
+use Rattle.laws.specs.Founding.{create-length}
+use Rattle.laws.specs.Granted.{Grants, done-granted}
+
+-- a clump that is split, and one that is used whole
+split-length : (need : ℕ) (h : Head) → need + leastRest ≤ h .nbytes → length (reserveStores need h) ≡ 7
+unfolding reserveStores
+split-length need h l = rw (le-leb leastRest (h .nbytes - need) (omega arith))
+
+whole-length : (need : ℕ) (h : Head) → h .nbytes < need + leastRest → length (reserveStores need h) ≡ 4
+unfolding reserveStores
+whole-length need h l = rw (lt-leb leastRest (h .nbytes - need) (omega arith))
+
+-- a list carried out: its entries are three at most
+entries-few : (m : Mem) (a : ℕ) → length (entries m a) ≤ 3
+entries-few m a = omega (arith, length-map (usedSlots m a) (entry m), those-few (isUsed m) (slots a))
+
+activate-length : (m : Mem) (h : Head) → length (activateStores m h) ≡ 2 + 2 * length (entries m (h .at))
+unfolding activateStores finishActivating
+activate-length m h = simp (length-append, length-map) (omega arith)
+
+drop-few : (m : Mem) (h : Head) → length (dropStores m h) ≤ 5
+unfolding dropStores finishFreeing
+drop-few m h = go (hasState ACTIVE h)
+  where
+    go : (b : Bool) → length (cond b (setState h FREEING ∷ (entries m (h .at) ++ (setState h FREE ∷ []))) (setState h FREE ∷ [])) ≤ 5
+    go true = omega (arith, length-append (entries m (h .at)) (setState h FREE ∷ []), entries-few m (h .at))
+    go false = omega arith
+
+-- the joins
+before-few : (o : Option Head) (s : ℕ) → length (joinBefore o s) ≤ 1
+before-few none s = omega arith
+before-few (some k) s = omega arith
+
+both-few : (o p : Option Head) (h : Head) → length (joinBoth o p h) ≤ 2
+both-few none p h = omega (arith, before-few p (h .nbytes))
+both-few (some k) p h = omega (arith, before-few p (h .nbytes + k .nbytes))
+
+free-few : (m : Mem) (hs : List Head) (h : Head) → length (freeStores m hs h) ≤ 7
+unfolding freeStores
+free-few m hs h =
+    omega (arith, length-append (dropStores m h) (joinBoth (freeAfter hs h) (freeBefore hs h) h), drop-few m h, both-few (freeAfter hs h) (freeBefore hs h) h)
+
+-- the answer of a grant
+counted : (img : Image) (q : Request) (p : ℕ) (st : List Store) → Grants (length img) (mem img) q p st → Counted img q (answerAt false p (length st))
+counted img Create p st e = ap length e ∙ create-length (length img)
+counted img (Reserve size) p st g = (
+  g .clump,
+  rw (g .place) (found-again clumpsAt (length img) (clumpsOf img) (pool-tiles (length img) (mem img) (g .sound)) (fits (needOf size)) (g .clump) (g .found)),
+  ((λ l. ap length (g .stores) ∙ split-length (needOf size) (g .clump) l), (λ l. ap length (g .stores) ∙ whole-length (needOf size) (g .clump) l)),
+)
+counted img (Onactive o t v) p st g = ap length (g .1)
+counted img (Onfree o t v) p st g = ap length (g .1)
+counted img (Withdraw o) p st g = ap length (g .2)
+counted img (Activate o) p st g =
+    let e = activate-length (mem img) (g .0) in
+    rw (g .1, g .2) (e, omega (arith, e, entries-few (mem img) (g .0 .at)))
+counted img (Free o) p st g = rw (g .2) (free-few (mem img) (clumpsOf img) (g .0))
+counted img Check p st e = ap length e
+counted img Recover p st e = tt
+
+pub counts : Counts
+counts img q fuse d =
+    let g = done-granted img q fuse d in
+    subst (Counted img q) (sym (g .answer-is)) (counted img q (g .place) (g .stores) (g .grants))

@@ -1,0 +1,145 @@
+-- The shape of every verdict: it refuses with one of the answers 1 to 10, or it grants what the request's tests led to. So a request
+-- that is done was granted, and its answer has the grant's place and counts all of its stores. By cases on the tests. Assumes nothing.
+use Prim.Native.Nat.{ℕ, _<_}
+use mathlib.Core.Path.{_≡_, refl, ap}
+use mathlib.Core.Bool.{Bool, true, false, not}
+use mathlib.Core.Option.{Option, some, none}
+use mathlib.Core.List.{List, [], _∷_}
+use native.Mathlib.Omega.{arith}
+use lib.Dec.{eqb, ltb}
+use lib.ListN.{length, take}
+use lib.Seq.{take-all}
+use borrow.Author.Tests.{ltb-false, eqb-false, not-false}
+use Rattle.rules.specs.declared.Request.{Request}
+use Rattle.rules.specs.declared.Request.the-variants.{Create, Reserve, Onactive, Onfree, Withdraw, Activate, Free, Check, Recover}
+use Rattle.rules.specs.Lists.{seek}
+use Rattle.rules.specs.Words.{Image, Mem, Store, mem}
+use Rattle.rules.specs.Pages.{isPool, rightLength}
+use Rattle.rules.specs.Clumps.{Head, bodyOf, RESERVED, ACTIVE, hasState, isWaiting, isEmpty, slots, usedSlots, walk}
+use Rattle.rules.specs.Sound.{Fault, judge, unsettled, isValid, allValid}
+use Rattle.rules.specs.Answers.{done, notPool, notSound, notSettled, sizeZero, wrongState, badTarget, cutShort, Verdict, refused, granted, test, testFault, answerAt, answerOf, ifSound, ifSettled}
+use Rattle.rules.specs.Stores.{createStores, needOf, fits, reserveStores, listStores, withdrawStores, activateStores, freeStores, recoverStores}
+use Rattle.rules.specs.Requests.{placed, reserve, finder, found, listed, enlist, withdrawn, withdraw, activate, mayDrop, free, verdict, verdictOn, answerOn}
+use Rattle.laws.specs.Pools.{Sound}
+
+-- a refusal has one of the answers 1 to 10, and a fault with answer 2 alone; of a grant's place and stores G holds
+module _ (G : ℕ → List Store → Type 0) where
+  abbrev pub Fair : Verdict → Type 0
+  Fair (refused a p f) = (done < a) × (a < cutShort) × ((a ≡ notSound → ⊥) → f ≡ 0)
+  Fair (granted p st) = G p st
+
+  fair-test : (b : Bool) (a : ℕ) (v : Verdict) → done < a → a < cutShort → (b ≡ false → Fair v) → Fair (test b a v)
+  fair-test true a v l u k = (l, u, λ e. refl)
+  fair-test false a v l u k = k refl
+
+  fair-fault : (o : Option Fault) (v : Verdict) → (o ≡ none → Fair v) → Fair (testFault o v)
+  fair-fault none v k = k refl
+  fair-fault (some f) v k = (omega arith, omega arith, λ e. absurd (e refl))
+
+  fair-sound : (n : ℕ) (m : Mem) (v : Verdict) → (Sound n m → Fair v) → Fair (ifSound n m v)
+  unfolding ifSound
+  fair-sound n m v k =
+      fair-test (not (isPool n m)) notPool _ (omega arith) (omega arith)
+      (λ p. fair-fault (judge n m) v (λ j. k (record { pool = not-false _ p; sound = j })))
+
+  fair-settled : (n : ℕ) (m : Mem) (v : Verdict) → (Sound n m → unsettled (walk n m) ≡ false → Fair v) → Fair (ifSettled n m v)
+  unfolding ifSettled
+  fair-settled n m v k = fair-sound n m _ (λ s. fair-test (unsettled (walk n m)) notSettled v (omega arith) (omega arith) (k s))
+
+  fair-found : (o : Option Head) (go : Head → Verdict) → ((h : Head) → o ≡ some h → Fair (go h)) → Fair (found o go)
+  fair-found none go k = (omega arith, omega arith, λ e. refl)
+  fair-found (some h) go k = k h refl
+
+  -- a request on the clump that has its body at o
+  fair-asked : (n : ℕ) (m : Mem) (o : ℕ) (go : Head → Verdict) → ((h : Head) → finder (walk n m) o ≡ some h → Fair (go h)) → Fair (ifSettled n m (found (finder (walk n m) o) go))
+  fair-asked n m o go k = fair-settled n m _ (λ s u. fair-found (finder (walk n m) o) go k)
+
+-- what reserve grants, with the place p and the stores st: those of the first clump that fits
+pub record Reserves (n : ℕ) (m : Mem) (size p : ℕ) (st : List Store) : Type 0 where
+  pub sound : Sound n m
+  pub calm : unsettled (walk n m) ≡ false
+  pub asked : size ≡ 0 → ⊥
+  pub clump : Head
+  pub found : seek (fits (needOf size)) (walk n m) ≡ some clump
+  pub place : p ≡ bodyOf clump
+  pub stores : st ≡ reserveStores (needOf size) clump
+
+-- what onactive and onfree grant, and withdraw, whichever entry it is
+abbrev pub Enlists : ℕ → ℕ → ℕ → List Store → Type 0
+Enlists t v p st = (s : ℕ) × (st ≡ listStores s t v)
+
+abbrev pub Withdraws : ℕ → List Store → Type 0
+Withdraws p st = (s : ℕ) × (sl : List ℕ) × (st ≡ withdrawStores s sl)
+
+-- what each request grants
+abbrev pub Grants : ℕ → Mem → Request → ℕ → List Store → Type 0
+Grants n m Create p st = st ≡ createStores n
+Grants n m (Reserve size) p st = Reserves n m size p st
+Grants n m (Onactive o t v) p st = Enlists t v p st
+Grants n m (Onfree o t v) p st = Enlists t v p st
+Grants n m (Withdraw o) p st = Withdraws p st
+Grants n m (Activate o) p st = (h : Head) × (finder (walk n m) o ≡ some h) × (st ≡ activateStores m h)
+Grants n m (Free o) p st = (h : Head) × (finder (walk n m) o ≡ some h) × (st ≡ freeStores m (walk n m) h)
+Grants n m Check p st = st ≡ []
+Grants n m Recover p st = st ≡ recoverStores m (walk n m)
+
+fair-placed : (n : ℕ) (m : Mem) (size : ℕ) → Sound n m → unsettled (walk n m) ≡ false → (size ≡ 0 → ⊥) → (o : Option Head) → seek (fits (needOf size)) (walk n m) ≡ o → Fair (Reserves n m size) (placed (needOf size) o)
+fair-placed n m size s u z none e = (omega arith, omega arith, λ i. refl)
+fair-placed n m size s u z (some h) e = record { sound = s; calm = u; asked = z; clump = h; found = e; place = refl; stores = refl }
+
+fair-listed : (b : Bool) (o : Option ℕ) (p t v : ℕ) → Fair (Enlists t v) (listed b o p t v)
+fair-listed b none p t v = (omega arith, omega arith, λ e. refl)
+fair-listed b (some s) p t v = fair-test (Enlists t v) (not b) badTarget _ (omega arith) (omega arith) (λ z. (s, refl))
+
+fair-enlist : (m : Mem) (hs : List Head) (a p t v : ℕ) (h : Head) → Fair (Enlists t v) (enlist m hs a p t v h)
+unfolding enlist
+fair-enlist m hs a p t v h =
+    fair-test (Enlists t v) (not (hasState a h)) wrongState _ (omega arith) (omega arith)
+    (λ z. fair-listed (isValid hs t) (seek (isEmpty m) (slots (h .at))) p t v)
+
+fair-withdrawn : (sl : List ℕ) (p : ℕ) → Fair Withdraws (withdrawn sl p)
+fair-withdrawn [] p = (omega arith, omega arith, λ e. refl)
+fair-withdrawn (s ∷ sl) p = (s, sl, refl)
+
+pub fair : (n : ℕ) (m : Mem) (q : Request) → Fair (Grants n m q) (verdict n m q)
+unfolding verdict reserve withdraw activate free
+fair n m Create = fair-test (Grants n m Create) (not (rightLength n)) notPool _ (omega arith) (omega arith) (λ z. refl)
+fair n m (Reserve size) =
+    fair-settled (Reserves n m size) n m _
+    (λ s u. fair-test (Reserves n m size) (eqb size 0) sizeZero _ (omega arith) (omega arith)
+    (λ z. fair-placed n m size s u (eqb-false size 0 z) (seek (fits (needOf size)) (walk n m)) refl))
+fair n m (Onactive o t v) = fair-asked (Enlists t v) n m o _ (λ h e. fair-enlist m (walk n m) RESERVED o t v h)
+fair n m (Onfree o t v) = fair-asked (Enlists t v) n m o _ (λ h e. fair-enlist m (walk n m) ACTIVE o t v h)
+fair n m (Withdraw o) =
+    fair-asked Withdraws n m o _
+    (λ h e. fair-test Withdraws (not (isWaiting h)) wrongState _ (omega arith) (omega arith) (λ z. fair-withdrawn (usedSlots m (h .at)) o))
+fair n m (Activate o) =
+    fair-asked (Grants n m (Activate o)) n m o _
+    (λ h e. fair-test (Grants n m (Activate o)) (not (hasState RESERVED h)) wrongState _ (omega arith) (omega arith)
+    (λ z. fair-test (Grants n m (Activate o)) (not (allValid m (walk n m) h)) badTarget _ (omega arith) (omega arith) (λ v. (h, e, refl))))
+fair n m (Free o) =
+    fair-asked (Grants n m (Free o)) n m o _
+    (λ h e. fair-test (Grants n m (Free o)) (not (isWaiting h)) wrongState _ (omega arith) (omega arith)
+    (λ z. fair-test (Grants n m (Free o)) (not (mayDrop m (walk n m) h)) badTarget _ (omega arith) (omega arith) (λ v. (h, e, refl))))
+fair n m Check = fair-sound (Grants n m Check) n m _ (λ s. refl)
+fair n m Recover = fair-sound (Grants n m Recover) n m _ (λ s. refl)
+
+-- a fair verdict that is done is a grant, and the fuse has lasted
+pub record Granted (G : ℕ → List Store → Type 0) (fuse : ℕ) (v : Verdict) : Type 0 where
+  pub place : ℕ
+  pub stores : List Store
+  pub verdict-is : v ≡ granted place stores
+  pub answer-is : answerOf fuse v ≡ answerAt false place (length stores)
+  pub grants : G place stores
+
+fair-done : (G : ℕ → List Store → Type 0) (fuse : ℕ) (v : Verdict) → Fair G v → answerOf fuse v .answer ≡ done → Granted G fuse v
+unfolding answerOf
+fair-done G fuse (refused a p f) k e = absurd (omega (arith, k .0))
+fair-done G fuse (granted p st) k e = record { place = p; stores = st; verdict-is = refl; answer-is = go (ltb fuse (length st)) refl e; grants = k }
+  where
+    go : (b : Bool) → ltb fuse (length st) ≡ b → answerAt b p (length (take fuse st)) .answer ≡ done → answerAt b p (length (take fuse st)) ≡ answerAt false p (length st)
+    go true q e = absurd (omega arith)
+    go false q e = ap (λ (l : List Store). answerAt false p (length l)) (take-all fuse st (ltb-false fuse (length st) q))
+
+pub done-granted : (img : Image) (q : Request) (fuse : ℕ) → answerOn img q fuse .answer ≡ done → Granted (Grants (length img) (mem img) q) fuse (verdictOn img q)
+done-granted img q fuse e = fair-done (Grants (length img) (mem img) q) fuse (verdictOn img q) (fair (length img) (mem img) q) e

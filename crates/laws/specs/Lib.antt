@@ -25,3 +25,4 @@ pub mod OneWord
 pub mod Named
 pub mod Spare
 pub mod Counting
+pub mod Sampled

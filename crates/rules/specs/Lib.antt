@@ -13,3 +13,4 @@ pub mod Demands
 pub mod PowerLoss
 pub mod Cases
 pub mod Samples
+pub mod ReadingSamples

@@ -5,16 +5,17 @@ use Prim.Native.Nat.{ℕ}
 use mathlib.Core.Path.{_≡_, refl}
 use mathlib.Core.Bool.{true, false}
 use mathlib.Core.List.{List, [], _∷_, _++_, map}
-use lib.ListN.{replicate}
+use lib.ListN.{replicate, getD}
 use Rattle.rules.specs.declared.Request.{Request}
-use Rattle.rules.specs.declared.Request.the-variants.{Reserve, Onactive, Onfree, Withdraw, Activate, Free, Check, Recover}
+use Rattle.rules.specs.declared.Totals.{Totals}
+use Rattle.rules.specs.declared.Request.the-variants.{Create, Reserve, Onactive, Onfree, Withdraw, Activate, Free, Check, Recover}
 use Rattle.rules.specs.Words.{store, put, mem}
 use Rattle.rules.specs.Pages.{signatureLow, signatureHigh, rightLength}
 use Rattle.rules.specs.Clumps.{walk}
 use Rattle.rules.specs.Sound.{isValid}
 use Rattle.rules.specs.Answers.{storesOf, answerOf, totalsFor}
 use Rattle.rules.specs.Requests.{verdict}
-use Rattle.rules.specs.Cases.{everyRule, Pool, poolOf, under, longest, caseH}
+use Rattle.rules.specs.Cases.{everyRule, Pool, poolOf, under, longest, caseH, fresh}
 
 -- answer, place and fault of check
 abbrev pub checked : Pool → ℕ × ℕ × ℕ
@@ -23,6 +24,18 @@ checked p = let r = answerOf longest (verdict (p .0) (p .1) Check) in (r .answer
 -- the answer of a request
 abbrev pub answered : Pool → Request → ℕ
 answered p q = answerOf longest (verdict (p .0) (p .1) q) .answer
+
+-- its place
+abbrev pub placed : Pool → Request → ℕ
+placed p q = answerOf longest (verdict (p .0) (p .1) q) .place
+
+-- each request but create, on the clump that has its body at o
+abbrev pub each : ℕ → List Request
+each o = Reserve 1 ∷ Onactive o 4096 1 ∷ Onfree o 4096 1 ∷ Withdraw o ∷ Activate o ∷ Free o ∷ Check ∷ Recover ∷ []
+
+-- check's totals
+abbrev pub totalled : Pool → Totals
+totalled p = totalsFor (verdict (p .0) (p .1) Check) (walk (p .0) (p .1))
 
 -- the stores of a request
 abbrev pub listOf : Pool → Request → List (ℕ × ℕ)
@@ -53,18 +66,25 @@ Samples =
     (put (replicate 16 255) 8 513 ≡ replicate 8 255 ++ (1 ∷ 2 ∷ 0 ∷ 0 ∷ 0 ∷ 0 ∷ 0 ∷ 0 ∷ []))
     × (map (mem (0 ∷ 0 ∷ 0 ∷ 0 ∷ 0 ∷ 0 ∷ 0 ∷ 128 ∷ 1 ∷ 2 ∷ [])) (0 ∷ 8 ∷ 9 ∷ []) ≡ 9223372036854775808 ∷ 513 ∷ 0 ∷ [])
     -- pages: lengths; the signature's words; a word that is not 0 where one is judged, and where none is
-    × (map rightLength (16448 ∷ 16512 ∷ 16520 ∷ 1073741824 ∷ 1073741888 ∷ []) ≡ false ∷ true ∷ false ∷ true ∷ false ∷ [])
+    × (map rightLength (16448 ∷ 16512 ∷ 16520 ∷ 16544 ∷ 1073741824 ∷ 1073741888 ∷ [])
+    ≡ false ∷ true ∷ false ∷ false ∷ true ∷ false ∷ [])
     × ((signatureLow ∷ signatureHigh ∷ []) ≡ 5497841045243514922 ∷ 21479300299440975 ∷ [])
     × (map (λ o. checked (poolOf ((128, 0) ∷ []) (store o 1 ∷ []))) (0 ∷ 4096 ∷ 8192 ∷ 12288 ∷ 12296 ∷ 12304 ∷ 12312 ∷ 16376 ∷ [])
     ≡ (0, 0, 0) ∷ (0, 0, 0) ∷ (0, 0, 0) ∷ (1, 0, 0) ∷ (1, 0, 0) ∷ (1, 0, 0) ∷ (1, 0, 0) ∷ (1, 0, 0) ∷ [])
+    -- the total size: below the length, the length, and above it
+    × (map (λ t. checked (poolOf ((128, 0) ∷ (128, 0) ∷ []) (store 12304 t ∷ []))) (16576 ∷ 16640 ∷ 16704 ∷ [])
+    ≡ (1, 0, 0) ∷ (0, 0, 0) ∷ (1, 0, 0) ∷ [])
     -- fault 1, by the first clump's nbytes; 192 leaves the next header at 16576, where nbytes is 0
-    × (map (λ w. checked (poolOf ((128, 0) ∷ (128, 0) ∷ []) (store 16384 w ∷ []))) (64 ∷ 136 ∷ 192 ∷ 256 ∷ 320 ∷ [])
-    ≡ (2, 16384, 1) ∷ (2, 16384, 1) ∷ (2, 16576, 1) ∷ (0, 0, 0) ∷ (2, 16384, 1) ∷ [])
+    × (map (λ w. checked (poolOf ((128, 0) ∷ (128, 0) ∷ []) (store 16384 w ∷ []))) (64 ∷ 136 ∷ 160 ∷ 192 ∷ 256 ∷ 320 ∷ [])
+    ≡ (2, 16384, 1) ∷ (2, 16384, 1) ∷ (2, 16384, 1) ∷ (2, 16576, 1) ∷ (0, 0, 0) ∷ (2, 16384, 1) ∷ [])
     -- fault 2, by the second clump's state
-    × (map (λ s. checked (poolOf ((128, 0) ∷ (128, s) ∷ []) [])) (4 ∷ 5 ∷ []) ≡ (0, 0, 0) ∷ (2, 16512, 2) ∷ [])
-    -- fault 3, by the targets of a RESERVED clump; the list of a FREE one means nothing
+    × (map (λ s. checked (poolOf ((128, 0) ∷ (128, s) ∷ []) [])) (4 ∷ 5 ∷ 6 ∷ 256 ∷ longest ∷ [])
+    ≡ (0, 0, 0) ∷ (2, 16512, 2) ∷ (2, 16512, 2) ∷ (2, 16512, 2) ∷ (2, 16512, 2) ∷ [])
+    -- fault 3, by the targets of a RESERVED clump and of an ACTIVE one; the list of a FREE one means nothing
     × (map (λ t. checked (listing 1 t)) ((0, 4096, 0) ∷ (4096, 0, 8184) ∷ (4096, 8184, 16632) ∷ (4100, 0, 0) ∷ (4096, 8192, 0) ∷ (16376, 0, 0) ∷ (16384, 0, 0) ∷ (16640, 0, 0) ∷ [])
     ≡ (2, 16384, 3) ∷ (2, 16384, 3) ∷ (0, 0, 0) ∷ (2, 16384, 3) ∷ (2, 16384, 3) ∷ (2, 16384, 3) ∷ (0, 0, 0) ∷ (2, 16384, 3) ∷ [])
+    × (map (λ t. checked (listing 3 t)) ((0, 0, 4096) ∷ (4096, 4104, 8184) ∷ (4096, 8188, 0) ∷ (8, 0, 0) ∷ [])
+    ≡ (2, 16384, 3) ∷ (0, 0, 0) ∷ (2, 16384, 3) ∷ (2, 16384, 3) ∷ [])
     × (checked (listing 0 (4100, 0, 1)) ≡ (0, 0, 0))
     -- fault 4, and the lower number before the higher
     × (map (λ s. checked (poolOf ((128, 2) ∷ (128, s) ∷ []) (store 16400 16384 ∷ []))) (2 ∷ 4 ∷ 5 ∷ [])
@@ -75,9 +95,9 @@ Samples =
     -- valid targets, with ACTIVE 128 and FREE 128
     × (map (isValid (walk 16640 (listing 3 (0, 0, 0) .1))) (4088 ∷ 4096 ∷ 8184 ∷ 8192 ∷ 16440 ∷ 16448 ∷ 16452 ∷ 16504 ∷ 16512 ∷ 16576 ∷ [])
     ≡ false ∷ true ∷ true ∷ false ∷ false ∷ true ∷ false ∷ true ∷ false ∷ false ∷ [])
-    -- answer 3: two FREE touch, or a clump is unfinished; never of check and recover
-    × (map (answered (poolOf ((128, 0) ∷ (128, 0) ∷ []) [])) (Reserve 0 ∷ Activate 16448 ∷ Check ∷ Recover ∷ []) ≡ 3 ∷ 3 ∷ 0 ∷ 0 ∷ [])
-    × (map (answered (listing 2 (0, 0, 0))) (Reserve 1 ∷ Free 16448 ∷ Check ∷ Recover ∷ []) ≡ 3 ∷ 3 ∷ 0 ∷ 0 ∷ [])
+    -- answer 3: two FREE touch, or a clump is ACTIVATING, or FREEING; never of check and recover
+    × (map (λ p. map (answered p) (each 16448)) (poolOf ((128, 0) ∷ (128, 0) ∷ []) [] ∷ listing 2 (0, 0, 0) ∷ listing 4 (0, 0, 0) ∷ [])
+    ≡ replicate 3 (3 ∷ 3 ∷ 3 ∷ 3 ∷ 3 ∷ 3 ∷ 0 ∷ 0 ∷ []))
     -- answers 4, 6 and 7, with FREE 128 and ACTIVE 128
     × (map (answered (poolOf ((128, 0) ∷ (128, 3) ∷ []) [])) (Reserve 0 ∷ Activate 16384 ∷ Activate 16448 ∷ Free 16448 ∷ Withdraw 16448 ∷ Activate 16576 ∷ Onactive 16576 4096 1 ∷ [])
     ≡ 4 ∷ 6 ∷ 7 ∷ 7 ∷ 7 ∷ 7 ∷ 7 ∷ [])
@@ -86,9 +106,35 @@ Samples =
     × (map (answered (listing 1 (0, 0, 0))) (Withdraw 16448 ∷ Onactive 16448 8192 1 ∷ Onactive 16448 16504 1 ∷ Free 16448 ∷ []) ≡ 9 ∷ 10 ∷ 0 ∷ 0 ∷ [])
     -- answer 10 of a target that was listed and lies in a FREE body now: activate and free of an ACTIVE clump, not free of a RESERVED one
     × ((answered (listing 1 (16576, 0, 0)) (Activate 16448) ∷ answered (listing 3 (16576, 0, 0)) (Free 16448) ∷ answered (listing 1 (16576, 0, 0)) (Free 16448) ∷ []) ≡ 10 ∷ 10 ∷ 0 ∷ [])
+    -- the place of a request that is done: on a RESERVED clump, and on an ACTIVE one
+    × (map (placed (listing 1 (4096, 0, 0))) (each 16448) ≡ 16576 ∷ 16448 ∷ 0 ∷ 16448 ∷ 16448 ∷ 16448 ∷ 0 ∷ 0 ∷ [])
+    × (map (placed (listing 3 (4096, 0, 0))) (each 16448) ≡ 16576 ∷ 0 ∷ 16448 ∷ 16448 ∷ 0 ∷ 16448 ∷ 0 ∷ 0 ∷ [])
     -- first fit: of two clumps that fit, the lower; of three, the first that is large enough
     × (map (λ size. answerOf longest (verdict 17152 (poolOf ((128, 0) ∷ (128, 3) ∷ (256, 0) ∷ (128, 3) ∷ (128, 0) ∷ []) [] .1) (Reserve size)) .place) (1 ∷ 65 ∷ 193 ∷ []) ≡ 16448 ∷ 16704 ∷ 0 ∷ [])
-    -- the lists of stores
+    -- the lists of stores: of create its first, the ends of its parts, and three words inside each run of zeros
+    × (map (λ i. getD (listOf fresh Create) i (0, 0)) (0 ∷ 1 ∷ 2 ∷ 3 ∷ 4 ∷ 512 ∷ 513 ∷ 514 ∷ 515 ∷ 516 ∷ 517 ∷ 518 ∷ 1023 ∷ 1024 ∷ 1025 ∷ 1026 ∷ 1027 ∷ 1028 ∷ 1031 ∷ 1032 ∷ 1033 ∷ [])
+    ≡ (12288, 0)
+    ∷ (4096, 0)
+    ∷ (4104, 0)
+    ∷ (4112, 0)
+    ∷ (4120, 0)
+    ∷ (8184, 0)
+    ∷ (12296, 21479300299440975)
+    ∷ (12304, 32768)
+    ∷ (12312, 0)
+    ∷ (12320, 0)
+    ∷ (12328, 0)
+    ∷ (12336, 0)
+    ∷ (16376, 0)
+    ∷ (16384, 16384)
+    ∷ (16392, 0)
+    ∷ (16400, 0)
+    ∷ (16408, 0)
+    ∷ (16416, 0)
+    ∷ (16440, 0)
+    ∷ (12288, 5497841045243514922)
+    ∷ (0, 0)
+    ∷ [])
     × (listOf (poolOf ((1216, 0) ∷ []) []) (Reserve 1000)
     ≡ (17472, 128) ∷ (17480, 0) ∷ (16400, 0) ∷ (16416, 0) ∷ (16432, 0) ∷ (16384, 1088) ∷ (16392, 1) ∷ [])
     × (listOf (poolOf ((1152, 0) ∷ []) []) (Reserve 1000) ≡ (16400, 0) ∷ (16416, 0) ∷ (16432, 0) ∷ (16392, 1) ∷ [])
@@ -100,12 +146,14 @@ Samples =
     × (listOf (listing 1 (4096, 0, 0)) (Free 16448) ≡ (16392, 0) ∷ (16384, 256) ∷ [])
     × (listOf broken Recover ≡ (4096, 7) ∷ (16648, 0) ∷ (16520, 0) ∷ (16904, 0) ∷ (16384, 384) ∷ (16896, 256) ∷ [])
     × (listOf (under longest broken Recover) Recover ≡ [])
-    -- totals; fuses of 0, one too few, and enough
-    × (totalsFor (verdict (broken .0) (broken .1) Check) (walk (broken .0) (broken .1))
-    ≡ record { free = 256; reserved = 256; activating = 0; active = 128; freeing = 128 })
+    -- totals: with a clump in every state but ACTIVATING, and in that; with a refusal
+    × (totalled broken ≡ record { free = 256; reserved = 256; activating = 0; active = 128; freeing = 128 })
+    × (totalled (listing 2 (0, 0, 0)) ≡ record { free = 128; reserved = 0; activating = 128; active = 0; freeing = 0 })
+    × (totalled (listing 3 (8, 0, 0)) ≡ record { free = 0; reserved = 0; activating = 0; active = 0; freeing = 0 })
+    -- fuses of 0, one too few, and enough
     × (map fused (0 ∷ 6 ∷ 7 ∷ 8 ∷ [])
     ≡ (11, 0, 0) ∷ (11, 0, 6) ∷ (0, 16448, 7) ∷ (0, 16448, 7) ∷ [])
 
 samples : Samples
 unfolding everyRule
-samples = (refl, refl, refl, refl, refl, refl, refl, refl, refl, refl, refl, refl, refl, refl, refl, refl, refl, refl, refl, refl, refl, refl, refl, refl, refl, refl, refl, refl, refl, refl, refl)
+samples = (refl, refl, refl, refl, refl, refl, refl, refl, refl, refl, refl, refl, refl, refl, refl, refl, refl, refl, refl, refl, refl, refl, refl, refl, refl, refl, refl, refl, refl, refl, refl, refl, refl, refl, refl, refl, refl)

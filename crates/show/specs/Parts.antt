@@ -1,94 +1,143 @@
--- A part of the clumps' lines in a buffer: what it is, and the laws of the loop that fills it: its start, a line more, its end.
--- Assumes nothing.
-use Prim.Native.Nat.{ℕ, _+_, _%_, _<_, _≤_}
-use mathlib.Core.Path.{_≡_, refl, sym, ap, ap₂, _∙_}
+-- A part of the clumps' lines, as much as a buffer has room for: its text and where the walk goes on, by the loop's own recursion, and
+-- what `clumps` promises, which is that part, so that any two of its outcomes are equal. The part and then the lines from where the walk
+-- goes on are those from its start, and it gets on: by induction on the steps. Assumes nothing.
+use Prim.Native.Nat.{ℕ, zero, suc, _+_, _%_, _<_, _≤_}
+use mathlib.Core.Path.{_≡_, refl, sym, ap, _∙_}
 use mathlib.Core.Bool.{Bool, true, false, _&&_}
-use mathlib.Core.Logic.{_⊎_, inl, inr, ⊎-elim}
-use mathlib.Core.List.{List, _++_, append-assoc}
+use mathlib.Core.List.{List, [], _++_, append-assoc}
 use native.Mathlib.Omega.{arith}
+use native.Mathlib.Nat.{add-zero, add-assoc}
 use lib.Dec.{leb}
-use lib.ListN.{length, take}
-use lib.Seq.{length-take-le}
-use borrow.Author.Tests.{le-leb, leb-true, leb-false}
+use lib.ListN.{length, length-append, take}
+use borrow.Author.Tests.{le-leb, lt-leb, leb-true}
 use Rattle.rules.specs.Words.{Mem, wordBytes}
-use Rattle.rules.specs.Clumps.{head, headerBytes, stateAt}
-use Rattle.laws.specs.Searches.{and-both}
-use Rattle.page.specs.declared.clump.Clump.{Clump}
-use Rattle.page.specs.Forms.{headOf}
-use Rattle.text.specs.Writing.{Wrote, wrote-front, wrote-length}
+use Rattle.rules.specs.Clumps.{head, headerBytes}
+use Rattle.laws.specs.Searches.{and-both, differ}
+use Rattle.text.specs.Writing.{Begins, begins-determined}
 use Rattle.line.specs.Texts.{threeBytes}
 use Rattle.show.specs.declared.Part.{Part}
-use Rattle.show.specs.Shown.{linesFrom, lines-next, headText, onward, onward-on, room}
+use Rattle.show.specs.Shown.{linesFrom, lines-next, headText, onward, onward-further, onward-even, room}
 
--- the part and then the lines from where the walk goes on are those from the place asked; it ends where no header is left or no line
--- has room, and gets on. `inside` and `front` are what lending it asks.
-pub record Shows (n : ℕ) (m : Mem) (from : ℕ) (out : List ℕ) (r : Part) : Type 0 where
-  pub inside : r .count ≤ length out
-  pub front : r .count ≡ length (take (r .count) out)
-  pub told : take (r .count) out ++ linesFrom n m (r .next) ≡ linesFrom n m from
-  pub full : r .next + headerBytes ≤ n → room < r .count + threeBytes
-  pub further : from + headerBytes ≤ n → from < r .next
-  pub even : r .next < n → r .next % wordBytes ≡ 0
+-- a text, and the place where the walk goes on
+pub record Piece : Type 0 where
+  pub text : List ℕ
+  pub next : ℕ
 
--- where the loop stands
-pub record Filling (n : ℕ) (m : Mem) (from : ℕ) (out : List ℕ) (at count : ℕ) : Type 0 where
-  pub inside : count ≤ length out
-  pub told : take count out ++ linesFrom n m at ≡ linesFrom n m from
-  pub begun : (from < at) ⊎ ((at ≡ from) × (count ≡ 0))
-  pub even : at < n → at % wordBytes ≡ 0
+abbrev pub inFront : List ℕ → Piece → Piece
+inFront t p = record { text = t ++ p .text; next = p .next }
 
--- what the loop's test tells
-pub filling-goes :
-    (n at count : ℕ) {t : Bool}
-    → t ≡ (leb (at + headerBytes) n && leb (count + threeBytes) room)
-    → t ≡ true
-    → (at + headerBytes ≤ n) × (count + threeBytes ≤ room)
-filling-goes n at count e p =
-    let w = and-both (leb (at + headerBytes) n) (leb (count + threeBytes) room) (sym e ∙ p) in
-    (leb-true (at + headerBytes) n (w .0), leb-true (count + threeBytes) room (w .1))
+-- one line more behind c bytes: from a on a header is left, and a line of the greatest length has room
+abbrev pub oneMore : ℕ → ℕ → ℕ → Bool
+oneMore n a c = leb (a + headerBytes) n && leb (c + threeBytes) room
 
-pub filling-start : (n : ℕ) (m : Mem) (from : ℕ) (out : List ℕ) → from % wordBytes ≡ 0 → Filling n m from out from 0
-filling-start n m from out e = record { inside = omega arith; told = refl; begun = inr (refl, refl); even = λ l. e }
+-- the part from a on behind c bytes, where k is at least what is left of the image
+unfoldable pub partIn : ℕ → ℕ → Mem → ℕ → ℕ → Piece
+partIn zero n m a c = record { text = []; next = a }
+partIn (suc k) n m a c =
+    elim (oneMore n a c) [
+      | true ↦ inFront (headText (head m a)) (partIn k n m (onward n (head m a)) (c + length (headText (head m a))))
+      | false ↦ record { text = []; next = a }
+    ]
 
-pub filling-next :
-    {n : ℕ} {m : Mem} {from : ℕ} {out : List ℕ} {at count : ℕ} (c : Clump) (out′ : List ℕ) (r next : ℕ)
-    → Filling n m from out at count
-    → at + headerBytes ≤ n
-    → count + threeBytes ≤ length out
-    → (c .nbytes ≡ m at) × (c .state ≡ m (stateAt at))
-    → Wrote out count (headText (headOf at c)) out′ r
-    → r ≤ count + threeBytes
-    → next ≡ onward n (headOf at c)
-    → (at < next) × Filling n m from out′ next r
-filling-next {n} {m} {from} {out} {at} {count} c out′ r next f l fits read w most e =
-    let same : headOf at c ≡ head m at = ap₂ (λ (b s : ℕ). record { at = at; nbytes = b; state = s }) (read .0) (read .1) in
-    let on = onward-on n (headOf at c) next e (omega arith) (f .even (omega arith)) in
-    let line : take r out′ ≡ take count out ++ headText (head m at) = rw same at (wrote-front (omega (arith, w .behind)) w) in
-    let after : next ≡ onward n (head m at) = rw same at e in (
-      on .0,
-      record {
-        inside = omega (arith, wrote-length w);
-        told =
-            rw (line, after) (append-assoc (take count out) (headText (head m at)) (linesFrom n m (onward n (head m at))))
-            ∙ sym (ap (λ (t : List ℕ). take count out ++ t) (lines-next n m at l))
-            ∙ f .told;
-        begun = inl (⊎-elim (λ v. omega arith) (λ v. omega arith) (f .begun));
-        even = on .1;
-      },
-    )
+-- the part behind the line of the clump at a
+abbrev pub partAfter : ℕ → ℕ → Mem → ℕ → ℕ → Piece
+partAfter k n m a c = partIn k n m (onward n (head m a)) (c + length (headText (head m a)))
 
-pub filling-end :
-    {n : ℕ} {m : Mem} {from : ℕ} {out : List ℕ} {at count : ℕ}
-    → Filling n m from out at count
-    → (leb (at + headerBytes) n && leb (count + threeBytes) room) ≡ false
-    → Shows n m from out (record { count = count; next = at })
-filling-end {n} {m} {from} {out} {at} {count} f e =
-    let full : at + headerBytes ≤ n → room < count + threeBytes = λ l. leb-false (count + threeBytes) room (rw (le-leb (at + headerBytes) n l) at e) in
+-- the part that a buffer takes from its start on
+unfoldable pub partFrom : ℕ → Mem → ℕ → Piece
+partFrom n m a = partIn n n m a 0
+
+-- what `clumps` promises: the buffer begins with the part's text, its rest is kept, and the walk goes on where the part says
+pub record Shows (n : ℕ) (m : Mem) (from : ℕ) (before after : List ℕ) (r : Part) : Type 0 where
+  pub begins : Begins before (partFrom n m from .text) after (r .count)
+  pub next : r .next ≡ partFrom n m from .next
+
+-- any two outcomes are equal
+pub clumps-determined :
+    {n : ℕ} {m : Mem} {from : ℕ} {x y z : List ℕ} {r s : Part}
+    → Shows n m from x y r
+    → Shows n m from x z s
+    → (y ≡ z) × (r ≡ s)
+clumps-determined v w =
+    let d = begins-determined (v .begins) (w .begins) in
+    let e = v .next ∙ sym (w .next) in
+    (d .0, λ i. record { count = d .1 i; next = e i })
+
+-- what the test tells
+pub one-more : (n a c : ℕ) → oneMore n a c ≡ true → (a + headerBytes ≤ n) × (c + threeBytes ≤ room)
+one-more n a c e =
+    let w = and-both (leb (a + headerBytes) n) (leb (c + threeBytes) room) e in
+    (leb-true (a + headerBytes) n (w .0), leb-true (c + threeBytes) room (w .1))
+
+-- one line more, and none
+pub part-more :
+    (k n : ℕ) (m : Mem) (a c : ℕ)
+    → a + headerBytes ≤ n
+    → c + threeBytes ≤ room
+    → partIn (suc k) n m a c ≡ inFront (headText (head m a)) (partAfter k n m a c)
+unfolding partIn
+part-more k n m a c l u = rw (le-leb (a + headerBytes) n l, le-leb (c + threeBytes) room u, partIn)
+
+pub part-none : (k n : ℕ) (m : Mem) (a c : ℕ) → oneMore n a c ≡ false → partIn k n m a c ≡ record { text = []; next = a }
+unfolding partIn
+part-none zero n m a c e = refl
+part-none (suc k) n m a c e = rw (e, partIn)
+
+-- the part from a on behind c bytes, and then the lines from where the walk goes on, are those from a on; it ends only where no line
+-- more is to be had. The walk does not go back, gets on by a line, and stays at words as long as the end is not reached.
+pub record Leads (n : ℕ) (m : Mem) (a c : ℕ) (p : Piece) : Type 0 where
+  pub told : p .text ++ linesFrom n m (p .next) ≡ linesFrom n m a
+  pub ends : oneMore n (p .next) (c + length (p .text)) ≡ false
+  pub on : a ≤ p .next
+  pub further : oneMore n a c ≡ true → a < p .next
+  pub even : (a < n → a % wordBytes ≡ 0) → p .next < n → p .next % wordBytes ≡ 0
+
+leads-none : (n : ℕ) (m : Mem) (a c : ℕ) → oneMore n a c ≡ false → Leads n m a c (record { text = []; next = a })
+leads-none n m a c e =
+    record { told = refl; ends = rw add-zero e; on = omega arith; further = λ t. differ t e; even = λ f l. f l }
+
+leads-more :
+    (n : ℕ) (m : Mem) (a c : ℕ) (p : Piece)
+    → a + headerBytes ≤ n
+    → Leads n m (onward n (head m a)) (c + length (headText (head m a))) p
+    → Leads n m a c (inFront (headText (head m a)) p)
+leads-more n m a c p l s =
+    let line = headText (head m a) in
+    let f : a < onward n (head m a) = onward-further n (head m a) (omega arith) in
     record {
-      inside = f .inside;
-      front = sym (length-take-le count out (f .inside));
-      told = f .told;
-      full = full;
-      further = λ l. ⊎-elim (λ v. v) (λ v. absurd (omega (arith, full (omega arith)))) (f .begun);
-      even = f .even;
+      told = append-assoc line (p .text) (linesFrom n m (p .next)) ∙ ap (λ (t : List ℕ). line ++ t) (s .told) ∙ sym (lines-next n m a l);
+      ends = rw (length-append line (p .text), ← add-assoc) (s .ends);
+      on = omega (arith, s .on);
+      further = λ t. omega (arith, s .on);
+      even = λ e. s .even (onward-even n (head m a) (e (omega arith)));
     }
+
+part-leads : (k n : ℕ) (m : Mem) (a c : ℕ) → n ≤ k + a → Leads n m a c (partIn k n m a c)
+unfolding partIn
+part-leads zero n m a c q = leads-none n m a c (rw (lt-leb (a + headerBytes) n (omega arith)))
+part-leads (suc k) n m a c q = go (oneMore n a c) refl (part-leads k n m (onward n (head m a)) (c + length (headText (head m a))))
+  where
+    go :
+        (t : Bool) → oneMore n a c ≡ t
+        → (n ≤ k + onward n (head m a) → Leads n m (onward n (head m a)) (c + length (headText (head m a))) (partAfter k n m a c))
+        → Leads n m a c (partIn (suc k) n m a c)
+    go true e ih =
+        let w = one-more n a c e in
+        let f : a < onward n (head m a) = onward-further n (head m a) (omega (arith, w .0)) in
+        rw (part-more k n m a c (w .0) (w .1)) (leads-more n m a c _ (w .0) (ih (omega arith)))
+    go false e ih = rw (part-none (suc k) n m a c e) (leads-none n m a c e)
+
+-- what follows of the promise for who prints part by part
+pub shows-leads :
+    {n : ℕ} {m : Mem} {from : ℕ} {x y : List ℕ} {r : Part}
+    → Shows n m from x y r
+    → Leads n m from 0 (record { text = take (r .count) y; next = r .next })
+unfolding partFrom
+shows-leads {n} {m} {from} s = rw (s .begins .told, s .next) (part-leads n n m from 0 (omega arith))
+
+pub shows-further :
+    {n : ℕ} {m : Mem} {from : ℕ} {x y : List ℕ} {r : Part}
+    → Shows n m from x y r
+    → from + headerBytes ≤ n
+    → from < r .next
+shows-further {n} {m} {from} s l = shows-leads s .further (rw (le-leb (from + headerBytes) n l))

@@ -46,7 +46,7 @@ unfolding onward
 onward-goes n h e = rw e
 
 -- on any bytes: further on
-onward-further : (n : ℕ) (h : Head) → h .at < n → h .at < onward n h
+pub onward-further : (n : ℕ) (h : Head) → h .at < n → h .at < onward n h
 unfolding onward
 onward-further n h l = go (sizeBad n h) refl
   where
@@ -55,21 +55,13 @@ onward-further n h l = go (sizeBad n h) refl
     go false p = omega (arith, size-good n h p)
 
 -- and to a word as long as the end is not reached
-onward-even : (n : ℕ) (h : Head) → h .at % wordBytes ≡ 0 → onward n h < n → onward n h % wordBytes ≡ 0
+pub onward-even : (n : ℕ) (h : Head) → h .at % wordBytes ≡ 0 → onward n h < n → onward n h % wordBytes ≡ 0
 unfolding onward
 onward-even n h a = go (sizeBad n h) refl
   where
     go : (t : Bool) → sizeBad n h ≡ t → cond t n (endOf h) < n → cond t n (endOf h) % wordBytes ≡ 0
     go true p l = absurd (omega arith)
     go false p l = omega (arith, size-good n h p)
-
-pub onward-on :
-    (n : ℕ) (h : Head) (r : ℕ)
-    → r ≡ onward n h
-    → h .at < n
-    → h .at % wordBytes ≡ 0
-    → (h .at < r) × (r < n → r % wordBytes ≡ 0)
-onward-on n h r e l a = rw e (onward-further n h l, onward-even n h a)
 
 -- one line more, and none
 lines-more :

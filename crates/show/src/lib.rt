@@ -1,7 +1,6 @@
 // What the program prints, put into a buffer: the reply to a request, a question mark, the clumps of an image. Takes any numbers and any
 // image. Nothing here reads input or writes output.
 ghost use mathlib.Core.Path.{_≡_};
-ghost use mathlib.Core.Bool.{_&&_};
 ghost use Prim.Native.Nat.{_+_, _%_, _<_};
 ghost use lib.Dec.{leb};
 ghost use lib.ListN.{length};
@@ -9,9 +8,9 @@ ghost use Rattle.rules.specs.Words.{mem, wordBytes};
 ghost use Rattle.rules.specs.Clumps.{headerBytes};
 ghost use Rattle.page.specs.Forms.{headOf};
 ghost use Rattle.text.specs.Writing.{Begins};
-ghost use Rattle.line.specs.Texts.{threeBytes, replyText, badText};
-ghost use Rattle.show.specs.Shown.{onward, room};
-ghost use Rattle.show.specs.Parts.{Shows};
+ghost use Rattle.line.specs.Texts.{replyText, badText};
+ghost use Rattle.show.specs.Shown.{onward};
+ghost use Rattle.show.specs.Parts.{oneMore, Shows};
 use page::clump::Clump;
 use rules::Answer;
 
@@ -52,7 +51,7 @@ pub fn is_left(length: usize, at: usize) -> bool
 
 // Whether one more clump is to be put into the buffer: a header is left, and a line has room.
 fn one_more(length: usize, at: usize, count: usize) -> bool
-    ensures { λ r. ⌜ r ≡ (leb (at + headerBytes) length && leb (count + threeBytes) room) ⌝ }
+    ensures { λ r. ⌜ r ≡ oneMore length at count ⌝ }
 {
     if !is_left(length, at) {
         return false;
@@ -80,7 +79,7 @@ fn behind(length: usize, at: usize, c: Clump) -> usize
 // "`walk` prints offset, nbytes and state of each clump": from a place on, as many as the buffer has room for.
 pub fn clumps(img: &[u8], out: &mut [u8; 4096], from: usize) -> Part
     requires { ⌜ from % wordBytes ≡ 0 ⌝ }
-    ensures { λ r. ⌜ Shows (length (now (img .entry))) (mem (now (img .entry))) from (now (out .exit)) r ⌝ }
+    ensures { λ r. ⌜ Shows (length (now (img .entry))) (mem (now (img .entry))) from (now (out .entry)) (now (out .exit)) r ⌝ }
 {
     let mut at = from;
     let mut count: usize = 0;

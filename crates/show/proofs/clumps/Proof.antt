@@ -7,12 +7,13 @@ use Rattle.rules.specs.Words.{mem}
 use Rattle.rules.specs.Clumps.{headerBytes}
 use Rattle.line.specs.Texts.{threeBytes}
 use Rattle.show.specs.Shown.{room}
-use Rattle.show.specs.Parts.{Filling, filling-start, filling-goes, filling-next, filling-end}
+use Rattle.show.specs.Parts.{one-more}
+use Rattle.show.specs.Filling.{Filling, filling-start, filling-next, filling-end}
 use Rattle.show.proofs.clumps.Statement.{statement}
 use Rattle.show.proofs.clumps.Tie as tie
 
 abbrev Inv-loop : tie.InvT-loop
-Inv-loop img out₀ from at₀ count₀ out at count = Filling (length img) (mem img) from out at count
+Inv-loop img out₀ from at₀ count₀ out at count = Filling (length img) (mem img) from out₀ out at count
 
 abbrev μ-loop : tie.MeasureT-loop
 μ-loop img out₀ from at₀ count₀ out at count = length img - at
@@ -28,7 +29,7 @@ goes :
     (c : tie.Then1 Inv-loop μ-loop)
     → (c .before .before .loop .at + headerBytes ≤ length (c .before .before .before .before .args .img .now))
     × (c .before .before .loop .count + threeBytes ≤ room)
-goes c = filling-goes _ _ _ (c .before .one-more .ensures) (c .if1 .taken)
+goes c = one-more _ _ _ (sym (c .before .one-more .ensures) ∙ c .if1 .taken)
 
 read-requires : tie.Need-read-requires Inv-loop μ-loop
 read-requires c κs = (goes c .0, c .before .before .loop .inv .even (omega (arith, goes c)))
@@ -47,13 +48,14 @@ further :
     (length (c .before .before .before .before .before .before .before .before .args .img .now))
     (mem (c .before .before .before .before .before .before .before .before .args .img .now))
     (c .before .before .before .before .before .before .before .before .args .from)
+    (c .before .before .before .before .before .before .before .before .args .out .now)
     (c .before .three .last .0)
     (c .behind .result)
     (c .before .three .result)
 further c =
     let t = goes (c .before .before .before .before) in
     let w = c .before .three .ensures in
-    filling-next _ _ _ _ (c .before .before .before .before .before .before .loop .inv) (t .0) (omega (arith, t .1)) (c .before .before .before .read .ensures) (w .0) (w .1) (c .behind .ensures)
+    filling-next _ _ _ _ (c .before .before .before .before .before .before .loop .inv) (t .0) (t .1) (c .before .before .before .read .ensures) (w .0) (w .1) (omega arith) (c .behind .ensures)
 
 loop-less : tie.Need-loop-less Inv-loop μ-loop
 loop-less c = omega (arith, goes (c .before .before .before .before) .0, further c .0)

@@ -6,6 +6,7 @@ use lib.ListN.{length}
 use borrow.Author.Tests.{leb-true}
 use Rattle.rules.specs.Words.{wordBytes}
 use Rattle.rules.specs.Clumps.{headerBytes}
+use Rattle.show.specs.Parts.{shows-leads, shows-further}
 use Rattle.bench.proofs.say.clumps.Statement.{statement}
 use Rattle.bench.proofs.say.clumps.Tie as tie
 
@@ -31,10 +32,10 @@ clumps-requires : tie.Need-clumps-requires Inv-loop μ-loop
 clumps-requires c κs = c .before .before .before .loop .inv (omega (arith, left (c .before)))
 
 array-share-prefix-out : tie.Need-array-share-prefix-out Inv-loop μ-loop
-array-share-prefix-out c = c .clumps .ensures .inside
+array-share-prefix-out c = c .clumps .ensures .begins .inside
 
 slice-aggregate-say : tie.Need-slice-aggregate-say Inv-loop μ-loop
-slice-aggregate-say c = c .before .clumps .ensures .front
+slice-aggregate-say c = c .before .clumps .ensures .begins .front
 
 say-requires : tie.Need-say-requires Inv-loop μ-loop
 say-requires c κs = tt
@@ -45,10 +46,10 @@ returns c = tt
 loop-less : tie.Need-loop-less Inv-loop μ-loop
 loop-less c =
     let l = left (c .before .before .before .before .before) in
-    omega (arith, l, c .before .before .before .clumps .ensures .further l)
+    omega (arith, l, shows-further (c .before .before .before .clumps .ensures) l)
 
 loop-again : tie.Need-loop-again Inv-loop μ-loop
-loop-again c = c .before .before .before .clumps .ensures .even
+loop-again c = shows-leads (c .before .before .before .clumps .ensures) .even (c .before .before .before .before .before .before .before .loop .inv)
 
 returns-2 : tie.Need-returns-2 Inv-loop μ-loop
 returns-2 c = tt

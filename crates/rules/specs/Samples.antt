@@ -96,8 +96,9 @@ Samples =
     × (map (isValid (walk 16640 (listing 3 (0, 0, 0) .1))) (4088 ∷ 4096 ∷ 8184 ∷ 8192 ∷ 16440 ∷ 16448 ∷ 16452 ∷ 16504 ∷ 16512 ∷ 16576 ∷ [])
     ≡ false ∷ true ∷ true ∷ false ∷ false ∷ true ∷ false ∷ true ∷ false ∷ false ∷ [])
     -- answer 3: two FREE touch, or a clump is ACTIVATING, or FREEING; never of check and recover
-    × (map (λ p. map (answered p) (each 16448)) (poolOf ((128, 0) ∷ (128, 0) ∷ []) [] ∷ listing 2 (0, 0, 0) ∷ listing 4 (0, 0, 0) ∷ [])
-    ≡ replicate 3 (3 ∷ 3 ∷ 3 ∷ 3 ∷ 3 ∷ 3 ∷ 0 ∷ 0 ∷ []))
+    × (map (answered (poolOf ((128, 0) ∷ (128, 0) ∷ []) [])) (each 16448) ≡ 3 ∷ 3 ∷ 3 ∷ 3 ∷ 3 ∷ 3 ∷ 0 ∷ 0 ∷ [])
+    × (map (λ s. map (answered (listing s (0, 0, 0))) (Withdraw 16448 ∷ Check ∷ Recover ∷ [])) (2 ∷ 4 ∷ [])
+    ≡ (3 ∷ 0 ∷ 0 ∷ []) ∷ (3 ∷ 0 ∷ 0 ∷ []) ∷ [])
     -- answers 4, 6 and 7, with FREE 128 and ACTIVE 128
     × (map (answered (poolOf ((128, 0) ∷ (128, 3) ∷ []) [])) (Reserve 0 ∷ Activate 16384 ∷ Activate 16448 ∷ Free 16448 ∷ Withdraw 16448 ∷ Activate 16576 ∷ Onactive 16576 4096 1 ∷ [])
     ≡ 4 ∷ 6 ∷ 7 ∷ 7 ∷ 7 ∷ 7 ∷ 7 ∷ [])
@@ -107,8 +108,9 @@ Samples =
     -- answer 10 of a target that was listed and lies in a FREE body now: activate and free of an ACTIVE clump, not free of a RESERVED one
     × ((answered (listing 1 (16576, 0, 0)) (Activate 16448) ∷ answered (listing 3 (16576, 0, 0)) (Free 16448) ∷ answered (listing 1 (16576, 0, 0)) (Free 16448) ∷ []) ≡ 10 ∷ 10 ∷ 0 ∷ [])
     -- the place of a request that is done: on a RESERVED clump, and on an ACTIVE one
-    × (map (placed (listing 1 (4096, 0, 0))) (each 16448) ≡ 16576 ∷ 16448 ∷ 0 ∷ 16448 ∷ 16448 ∷ 16448 ∷ 0 ∷ 0 ∷ [])
-    × (map (placed (listing 3 (4096, 0, 0))) (each 16448) ≡ 16576 ∷ 0 ∷ 16448 ∷ 16448 ∷ 0 ∷ 16448 ∷ 0 ∷ 0 ∷ [])
+    × (map (placed (listing 1 (4096, 0, 0))) (Reserve 1 ∷ Onactive 16448 4096 1 ∷ Withdraw 16448 ∷ Recover ∷ [])
+    ≡ 16576 ∷ 16448 ∷ 16448 ∷ 0 ∷ [])
+    × (map (placed (listing 3 (4096, 0, 0))) (Onfree 16448 4096 1 ∷ Withdraw 16448 ∷ Free 16448 ∷ []) ≡ 16448 ∷ 16448 ∷ 16448 ∷ [])
     -- first fit: of two clumps that fit, the lower; of three, the first that is large enough
     × (map (λ size. answerOf longest (verdict 17152 (poolOf ((128, 0) ∷ (128, 3) ∷ (256, 0) ∷ (128, 3) ∷ (128, 0) ∷ []) [] .1) (Reserve size)) .place) (1 ∷ 65 ∷ 193 ∷ []) ≡ 16448 ∷ 16704 ∷ 0 ∷ [])
     -- the lists of stores: of create its first, the ends of its parts, and three words inside each run of zeros
@@ -156,4 +158,4 @@ Samples =
 
 samples : Samples
 unfolding everyRule
-samples = (refl, refl, refl, refl, refl, refl, refl, refl, refl, refl, refl, refl, refl, refl, refl, refl, refl, refl, refl, refl, refl, refl, refl, refl, refl, refl, refl, refl, refl, refl, refl, refl, refl, refl, refl, refl, refl)
+samples = (refl, refl, refl, refl, refl, refl, refl, refl, refl, refl, refl, refl, refl, refl, refl, refl, refl, refl, refl, refl, refl, refl, refl, refl, refl, refl, refl, refl, refl, refl, refl, refl, refl, refl, refl, refl, refl, refl)

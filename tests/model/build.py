@@ -5,12 +5,19 @@ from collections import namedtuple
 import pool
 from pool import FREE, RESERVED, ACTIVE, LARGEST
 
-Case = namedtuple("Case", "image name numbers fuse")
+# `fill` is the byte that the case's line starts the image from: it lists the
+# words that differ from it.  The image is the whole one, fill and words.
+Case = namedtuple("Case", "image name numbers fuse fill")
 
 
-def case(image, name, *numbers, fuse=LARGEST):
+def case(image, name, *numbers, fuse=LARGEST, fill=0):
     assert len(numbers) == pool.NUMBERS_TAKEN[name], (name, numbers)
-    return Case(bytes(image), name, numbers, fuse)
+    return Case(bytes(image), name, numbers, fuse, fill)
+
+
+def filled(length, fill):
+    """An image in which every byte is the fill."""
+    return bytearray([fill]) * length
 
 
 class Dice:

@@ -9,8 +9,8 @@ from pool import FREE, RESERVED, ACTIVATING, ACTIVE, FREEING, LARGEST
 from build import (
     Dice, EDGE_NUMBERS, MIXED, MIXED_ACTIVE, MIXED_BARE_ACTIVE,
     MIXED_BARE_RESERVED, MIXED_FREE, MIXED_REQUESTS, MIXED_RESERVED, after, case,
-    clump, dusty, flip_bit, fresh, pool_header, pool_of, stores_of, unfinished,
-    with_words)
+    clump, dusty, filled, flip_bit, fresh, pool_header, pool_of, stores_of,
+    unfinished, with_words)
 
 # ---------------------------------------------------------------------------
 # Not a pool
@@ -612,27 +612,34 @@ def fuses_of_refusals():
         yield case(MIXED, "activate", MIXED_ACTIVE, fuse=fuse)
 
 
-CREATE_FUSES = (0, 1, 2, 3, 256, 511, 512, 513, 514, 515, 516, 517, 1022, 1023, 1024,
-                1025, 1026, 1030, 1031, 1032, 1033, 1034, 2**32, 2**63, LARGEST)
-
-
-# Create at the cuts where its parts meet, over dust and over an older pool,
-# and over a pool of the same length that was whole before.
+# Create over an image in which every byte is 165, with each fuse from 0 to its
+# 1,033 stores and one more.  Over zeros a store of 0 shows nothing; here each
+# store changes its word, so that the image between two of them tells which came
+# first.  No cut can be spared: two stores that none parts could change places
+# unseen.  Over the largest image here and the largest fill, one cut within each
+# run of zeros, and none: the order doesn't go by the length.
 def create_cuts():
-    over_dust = with_words(bytearray(16576), {
-        0: 1, 4088: 2, 4096: 3, 8184: 4, 8192: 5, 12280: 6, 12288: 7, 12296: 8,
-        12304: 9, 12312: 10, 16376: 11, 16384: 12, 16392: 13, 16440: 14, 16448: 15,
-        16568: 16})
-    over_pool = dusty(MIXED, 6)
-    for fuse in CREATE_FUSES:
-        yield case(over_dust, "create", fuse=fuse)
-        yield case(over_pool, "create", fuse=fuse)
+    for fuse in range(1035):
+        yield case(filled(16512, 165), "create", fuse=fuse, fill=165)
+    for fuse in (257, 770, 1029, LARGEST):
+        yield case(filled(65536, 255), "create", fuse=fuse, fill=255)
 
 
-# What the requests make of a cut creation: no pool, unless nothing was stored.
+# Create over an older pool: a check of what is left finds that one as long as
+# nothing was stored, then none, and the new one after the last store.  The wide
+# fuses are those that a narrower count would take for 0.
+def create_over_a_pool():
+    for fuse in (0, 1, 1032, 1033, 2**32, 2**63):
+        yield case(dusty(MIXED, 6), "create", fuse=fuse)
+
+
+# What the requests make of a creation that was cut where its parts meet, within
+# them and beside: no pool, unless nothing was stored.
 def after_create_cuts():
+    fuses = (0, 1, 2, 3, 256, 511, 512, 513, 514, 515, 516, 517, 1022, 1023, 1024, 1025,
+             1026, 1030, 1031, 1032)
     asked = (("check", ()), ("recover", ()), ("reserve", (1,)), ("free", (MIXED_ACTIVE,)))
-    for index, fuse in enumerate(CREATE_FUSES[:20]):
+    for index, fuse in enumerate(fuses):
         name, numbers = asked[index % 4]
         yield case(after(fresh(16576), "create", fuse=fuse), name, *numbers)
         yield case(after(dusty(MIXED, 6), "create", fuse=fuse), name, *numbers)
@@ -940,9 +947,9 @@ FAMILIES = (
     settled_after_all, sizes_round_64, rests, first_fits, huge_sizes, offsets_asked,
     targets_added, lists_filled, values_added, withdrawals, targets_carried_out,
     targets_gone, case_j, every_cut, wide_fuses, fuses_of_refusals, create_cuts,
-    after_create_cuts, recoveries, recoveries_cut_again, longer_and_longer_recoveries,
-    cut_images_asked, dust, garbage, garbage_clumps, nearly_right_pools, sound_pools,
-    damage, histories)
+    create_over_a_pool, after_create_cuts, recoveries, recoveries_cut_again,
+    longer_and_longer_recoveries, cut_images_asked, dust, garbage, garbage_clumps,
+    nearly_right_pools, sound_pools, damage, histories)
 
 
 def all_cases():

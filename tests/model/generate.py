@@ -16,6 +16,7 @@ from pathlib import Path
 
 import pool
 import program
+from build import filled
 from cases import MOST_WORDS, REQUEST_NAMES, all_cases
 from scripts import SCRIPTS
 
@@ -27,17 +28,11 @@ SCRIPTS_FOLDER = ROOT / "tests/scripts"
 PRIME = 4294967291
 
 
-# "s = (s * 257 + b + 1) mod 4294967291" for each byte, from first to last.
-def checksum_of_bytes(total, data):
-    for byte in data:
-        total = (total * 257 + byte + 1) % PRIME
-    return total
-
-
-# The same for so many zero bytes, by doubling: images are mostly zeros.  After n
-# zeros a sum s has become s * factor + added.
-def checksum_of_zeros(total, count):
-    factor, added = 257, 1
+# "s = (s * 257 + b + 1) mod 4294967291" for so many times the same byte, by
+# doubling: images are mostly long runs.  After n of them a sum s has become
+# s * factor + added.
+def checksum_of_run(total, byte, count):
+    factor, added = 257, byte + 1
     while count:
         if count % 2:
             total = (total * factor + added) % PRIME
@@ -46,31 +41,31 @@ def checksum_of_zeros(total, count):
     return total
 
 
+# From first to last, a run of the same byte at a time.
 def checksum(image):
     total = 0
-    for run in re.finditer(rb"\0+|[^\0]+", image):
-        if image[run.start()] == 0:
-            total = checksum_of_zeros(total, run.end() - run.start())
-        else:
-            total = checksum_of_bytes(total, run.group())
+    for run in re.finditer(rb"(.)\1*", image, re.DOTALL):
+        total = checksum_of_run(total, image[run.start()], run.end() - run.start())
     return total
 
 
-def words_of(image):
-    """The words that aren't 0, as offsets and values in turn."""
+def words_of(image, fill):
+    """The words that differ from the fill's, as offsets and values in turn."""
     whole = len(image) // 8
     words = struct.unpack("<%dQ" % whole, image[:8 * whole])
-    assert not any(image[8 * whole:])
-    return [number for at, word in enumerate(words) if word for number in (8 * at, word)]
+    assert image[8 * whole:] == filled(len(image) % 8, fill)
+    usual = int.from_bytes(filled(8, fill), "little")
+    return [number for at, word in enumerate(words) if word != usual
+            for number in (8 * at, word)]
 
 
-# LENGTH K OFF1 WORD1 .. OFFK WORDK REQUEST A B C FUSE
+# LENGTH FILL K OFFSET1 WORD1 .. OFFSETK WORDK REQUEST A B C FUSE
 def case_line(one):
-    words = words_of(one.image)
+    words = words_of(one.image, one.fill)
     assert len(words) // 2 <= MOST_WORDS and len(one.image) <= 65536
     numbers = one.numbers + (0,) * (3 - len(one.numbers))
-    line = [len(one.image), len(words) // 2, *words, REQUEST_NAMES.index(one.name),
-            *numbers, one.fuse]
+    line = [len(one.image), one.fill, len(words) // 2, *words,
+            REQUEST_NAMES.index(one.name), *numbers, one.fuse]
     return " ".join(map(str, line)) + "\n"
 
 

@@ -9,7 +9,7 @@ import cases
 import generate
 import pool
 import program
-from build import Dice, after, clump, dusty, fresh, pool_of, with_words
+from build import Dice, after, clump, dusty, filled, fresh, pool_of, with_words
 from pool import FREE, RESERVED, ACTIVATING, ACTIVE, FREEING, LARGEST
 from scripts import SCRIPTS
 
@@ -478,7 +478,7 @@ class TheGenerator(unittest.TestCase):
         cls.cases = cases.all_cases()
 
     def test_number_of_cases(self):
-        self.assertTrue(3000 <= len(self.cases) <= 4000, len(self.cases))
+        self.assertTrue(4000 <= len(self.cases) <= 5000, len(self.cases))
         self.assertGreaterEqual(len(SCRIPTS), 24)
 
     def test_every_answer_of_every_request(self):
@@ -498,6 +498,13 @@ class TheGenerator(unittest.TestCase):
             self.assertEqual(given.fault != 0, given.answer == 2)
             self.assertLessEqual(given.stores, one.fuse if one.name != "check" else 0)
 
+    # "s becomes (s * 257 + b + 1) modulo 4294967291", over every byte b.
+    def byte_by_byte(self, data):
+        total = 0
+        for byte in data:
+            total = (total * 257 + byte + 1) % 4294967291
+        return total
+
     # The quick checksum is the byte by byte one.
     def test_checksum(self):
         dice = Dice(8)
@@ -505,20 +512,43 @@ class TheGenerator(unittest.TestCase):
         self.assertEqual(generate.checksum(b"\0"), 1)
         self.assertEqual(generate.checksum(b"\0\x02"), 260)
         for length in (1, 2, 63, 64, 65, 1000):
-            data = bytes(dice.below(3) * dice.below(2) * dice.below(128) for _ in range(length))
-            self.assertEqual(generate.checksum(data), generate.checksum_of_bytes(0, data))
-            self.assertEqual(generate.checksum(bytes(length)),
-                             generate.checksum_of_bytes(0, bytes(length)))
+            mixed = bytes(dice.below(3) * dice.below(2) * dice.below(128)
+                          for _ in range(length))
+            for data in (mixed, *(filled(length, fill) for fill in (0, 10, 165, 255))):
+                self.assertEqual(generate.checksum(data), self.byte_by_byte(data))
 
     # A case line gives back its image.
     def test_case_lines(self):
         for one in self.cases[::40]:
             fields = list(map(int, generate.case_line(one).split()))
-            length, count = fields[:2]
-            words = dict(zip(fields[2:2 + 2 * count:2], fields[3:2 + 2 * count:2]))
-            self.assertEqual(with_words(bytearray(length), words), one.image)
+            length, fill, count = fields[:3]
+            words = dict(zip(fields[3:3 + 2 * count:2], fields[4:3 + 2 * count:2]))
+            self.assertEqual(with_words(filled(length, fill), words), one.image)
             self.assertEqual(cases.REQUEST_NAMES[fields[-5]], one.name)
             self.assertEqual(fields[-1], one.fuse)
+
+    # The family of create's cuts is what it says: no word that create stores is 0
+    # before, and every number of stores up to one too many is a cut.
+    def test_create_cuts(self):
+        family = list(cases.create_cuts())
+        for one in family:
+            words = [pool.word(one.image, at) for at in range(0, len(one.image), 8)]
+            self.assertNotIn(0, words)
+            self.assertEqual(generate.words_of(one.image, one.fill), [])
+        self.assertEqual([one.fuse for one in family if len(one.image) == 16512],
+                         list(range(1035)))
+
+    # So two neighbouring stores of create that change places are seen: the cut
+    # between them leaves another sum.
+    def test_every_swap_in_create_is_seen(self):
+        sums = {one.fuse: generate.checksum(after(one.image, "create", fuse=one.fuse))
+                for one in cases.create_cuts() if len(one.image) == 16512}
+        image = filled(16512, 165)
+        stores = pool.create_stores(16512)
+        for cut, (first, second) in enumerate(zip(stores, stores[1:]), 1):
+            swapped = generate.checksum(with_words(image, dict([second])))
+            self.assertNotEqual(swapped, sums[cut], (first, second))
+            image = with_words(image, dict([first]))
 
     def test_the_files_are_up_to_date(self):
         self.assertEqual(generate.differences(generate.files_wanted()), [])

@@ -1,4 +1,4 @@
--- What the numbers of a line ask: LENGTH K OFF1 WORD1 .. OFFK WORDK REQUEST A B C FUSE. Assumes nothing.
+-- What the numbers of a line ask: LENGTH FILL K OFFSET1 WORD1 .. OFFSETK WORDK REQUEST A B C FUSE. Assumes nothing.
 use Prim.Native.Nat.{ℕ, _+_, _*_, _≤_}
 use mathlib.Core.Path.{_≡_, refl}
 use mathlib.Core.Bool.{Bool, true, false, cond}
@@ -14,6 +14,10 @@ use Rattle.vectors.specs.declared.case.Case.the-variants.{Asked, Malform
 
 abbrev pub mostLength : ℕ
 mostLength = 65536
+
+-- a fill is a byte
+abbrev pub mostFill : ℕ
+mostFill = 255
 
 abbrev pub mostWords : ℕ
 mostWords = 120
@@ -36,38 +40,40 @@ at ns i = getD ns i 0
 
 -- where the request stands, after the words
 abbrev pub requestAt : List ℕ → ℕ
-requestAt ns = 2 + 2 * at ns 1
+requestAt ns = 3 + 2 * at ns 2
 
 abbrev pub asked : List ℕ → ℕ → Case
-asked ns i = Asked (at ns 0) (at ns 1) (requestOf (at ns i) (at ns (i + 1)) (at ns (i + 2)) (at ns (i + 3))) (at ns (i + 4))
+asked ns i = Asked (at ns 0) (at ns 1) (at ns 2) (requestOf (at ns i) (at ns (i + 1)) (at ns (i + 2)) (at ns (i + 3))) (at ns (i + 4))
 
 -- the case of the first `count` numbers
 abbrev pub caseOf : List ℕ → ℕ → Case
 caseOf ns count =
     cond (ltb mostLength (at ns 0)) Malformed
-    (cond (ltb mostWords (at ns 1)) Malformed
+    (cond (ltb mostFill (at ns 1)) Malformed
+    (cond (ltb mostWords (at ns 2)) Malformed
     (cond (eqb count (requestAt ns + 5))
     (cond (ltb 8 (at ns (requestAt ns))) Malformed (asked ns (requestAt ns)))
-    Malformed))
+    Malformed)))
 
 -- a case is within its bounds
 pub asked-within :
-    (ns : List ℕ) (count n k : ℕ) (q : Request) (fuse : ℕ)
-    → caseOf ns count ≡ Asked n k q fuse
+    (ns : List ℕ) (count n b k : ℕ) (q : Request) (fuse : ℕ)
+    → caseOf ns count ≡ Asked n b k q fuse
     → (n ≤ mostLength) × (k ≤ mostWords)
-asked-within ns count n k q fuse = go (ltb mostLength (at ns 0)) refl (ltb mostWords (at ns 1)) refl (eqb count (requestAt ns + 5)) (ltb 8 (at ns (requestAt ns)))
+asked-within ns count n b k q fuse = go (ltb mostLength (at ns 0)) refl (ltb mostFill (at ns 1)) (ltb mostWords (at ns 2)) refl (eqb count (requestAt ns + 5)) (ltb 8 (at ns (requestAt ns)))
   where
     go :
-        (a : Bool) → ltb mostLength (at ns 0) ≡ a
-        → (b : Bool) → ltb mostWords (at ns 1) ≡ b
+        (t : Bool) → ltb mostLength (at ns 0) ≡ t
+        → (f w : Bool) → ltb mostWords (at ns 2) ≡ w
         → (c d : Bool)
-        → cond a Malformed (cond b Malformed (cond c (cond d Malformed (asked ns (requestAt ns))) Malformed)) ≡ Asked n k q fuse
+        → cond t Malformed (cond f Malformed (cond w Malformed (cond c (cond d Malformed (asked ns (requestAt ns))) Malformed))) ≡ Asked n b k q fuse
         → (n ≤ mostLength) × (k ≤ mostWords)
-    go true p b r c d e = absurd (let z : _≡_ {A = ℕ} 0 1 = cc in omega arith)
-    go false p true r c d e = absurd (let z : _≡_ {A = ℕ} 0 1 = cc in omega arith)
-    go false p false r false d e = absurd (let z : _≡_ {A = ℕ} 0 1 = cc in omega arith)
-    go false p false r true true e = absurd (let z : _≡_ {A = ℕ} 0 1 = cc in omega arith)
-    go false p false r true false e =
+    go true p f w r c d e = absurd (let z : _≡_ {A = ℕ} 0 1 = cc in omega arith)
+    go false p true w r c d e = absurd (let z : _≡_ {A = ℕ} 0 1 = cc in omega arith)
+    go false p false true r c d e = absurd (let z : _≡_ {A = ℕ} 0 1 = cc in omega arith)
+    go false p false false r false d e = absurd (let z : _≡_ {A = ℕ} 0 1 = cc in omega arith)
+    go false p false false r true true e = absurd (let z : _≡_ {A = ℕ} 0 1 = cc in omega arith)
+    go false p false false r true false e =
         let x : at ns 0 ≡ n = (cc) in
-        let y : at ns 1 ≡ k = (cc) in
-        (omega (arith, ltb-false mostLength (at ns 0) p), omega (arith, ltb-false mostWords (at ns 1) r))
+        let y : at ns 2 ≡ k = (cc) in
+        (omega (arith, ltb-false mostLength (at ns 0) p), omega (arith, ltb-false mostWords (at ns 2) r))

@@ -1,4 +1,4 @@
--- Laws of the image of a case: the loop that puts its words in, by the words that are in, and the zeros that it starts from.
+-- Laws of the image of a case: the loop that puts its words in, by the words that are in, and the fill that it starts from.
 -- Assumes nothing.
 use Prim.Native.Nat.{ℕ, zero, suc, _+_, _*_, _%_, _≤_, _<_}
 use mathlib.Core.Path.{_≡_, refl, sym, ap, _∙_}
@@ -13,7 +13,7 @@ use Rattle.rules.specs.declared.Request.{Request}
 use Rattle.rules.specs.Words.{Image, store, wordBytes, carry}
 use Rattle.word.specs.Memory.{carry-append}
 use Rattle.vectors.specs.Cases.{at}
-use Rattle.vectors.specs.Outcomes.{lies, words, allLie, outcomeOf, zeroBytes, ranOf}
+use Rattle.vectors.specs.Outcomes.{lies, words, allLie, outcomeOf, filled, ranOf}
 use Rattle.vectors.specs.declared.case.Case.the-variants.{Asked}
 use Rattle.vectors.specs.declared.run.Outcome.{Outcome}
 use Rattle.vectors.specs.declared.run.Ran.the-variants.{Done, Malformed}
@@ -27,37 +27,37 @@ lies-in n o e = go (eqb (o % wordBytes) 0) refl e
     go false p f = absurd (let z : _≡_ {A = ℕ} 0 1 = cc in omega arith)
 
 -- the loop: the first i words lie in the image, and are in it
-pub record Filling (img : Image) (ns : List ℕ) (x : Image) (i : ℕ) : Type 0 where
+pub record Putting (img : Image) (ns : List ℕ) (x : Image) (i : ℕ) : Type 0 where
   pub long : length x ≡ length img
   pub lie : allLie (length img) ns i ≡ true
-  pub filled : x ≡ carry img (words ns i)
+  pub put : x ≡ carry img (words ns i)
 
 module _ (img : Image) (ns : List ℕ) where
   -- no word yet
-  pub filling-start : Filling img ns img 0
+  pub putting-start : Putting img ns img 0
   unfolding allLie words carry
-  filling-start = record { long = refl; lie = refl; filled = refl }
+  putting-start = record { long = refl; lie = refl; put = refl }
 
   -- one word more
-  pub filling-next :
+  pub putting-next :
       (x y : Image) (i : ℕ)
-      → Filling img ns x i
-      → lies (length x) (at ns (2 + 2 * i)) ≡ true
+      → Putting img ns x i
+      → lies (length x) (at ns (3 + 2 * i)) ≡ true
       → length y ≡ length x
-      → y ≡ carry x (store (at ns (2 + 2 * i)) (at ns (3 + 2 * i)) ∷ [])
-      → Filling img ns y (i + 1)
+      → y ≡ carry x (store (at ns (3 + 2 * i)) (at ns (4 + 2 * i)) ∷ [])
+      → Putting img ns y (i + 1)
   unfolding allLie words
-  filling-next x y i f e l s =
-      let d : lies (length img) (at ns (2 + 2 * i)) ≡ true = rw (f .long) at e in
+  putting-next x y i f e l s =
+      let d : lies (length img) (at ns (3 + 2 * i)) ≡ true = rw (f .long) at e in
       rw (add-one i)
       (record {
         long = l ∙ f .long;
         lie = rw (f .lie, d);
-        filled = s ∙ ap (λ (z : Image). carry z (store (at ns (2 + 2 * i)) (at ns (3 + 2 * i)) ∷ [])) (f .filled) ∙ sym (carry-append img (words ns i) _);
+        put = s ∙ ap (λ (z : Image). carry z (store (at ns (3 + 2 * i)) (at ns (4 + 2 * i)) ∷ [])) (f .put) ∙ sym (carry-append img (words ns i) _);
       })
 
   -- one word that does not lie there
-  none-lie : (i k : ℕ) → i < k → lies (length img) (at ns (2 + 2 * i)) ≡ false → allLie (length img) ns k ≡ false
+  none-lie : (i k : ℕ) → i < k → lies (length img) (at ns (3 + 2 * i)) ≡ false → allLie (length img) ns k ≡ false
   unfolding allLie
   none-lie i zero l e = absurd (omega arith)
   none-lie i (suc k) l e = go (eqb i k) refl (allLie (length img) ns k) refl (none-lie i k)
@@ -65,39 +65,39 @@ module _ (img : Image) (ns : List ℕ) where
       go :
           (t : Bool) → eqb i k ≡ t
           → (b : Bool) → allLie (length img) ns k ≡ b
-          → (i < k → lies (length img) (at ns (2 + 2 * i)) ≡ false → allLie (length img) ns k ≡ false)
-          → (b && lies (length img) (at ns (2 + 2 * k))) ≡ false
+          → (i < k → lies (length img) (at ns (3 + 2 * i)) ≡ false → allLie (length img) ns k ≡ false)
+          → (b && lies (length img) (at ns (3 + 2 * k))) ≡ false
       go t p false q r = refl
       go true p true q r = rw (eqb-true i k p) at e
       go false p true q r = let f = r (omega (arith, eqb-false i k p)) e in absurd (let z : _≡_ {A = ℕ} 0 1 = cc in omega arith)
 
-  pub never-lie : (x : Image) (i k : ℕ) → Filling img ns x i → i < k → lies (length x) (at ns (2 + 2 * i)) ≡ false → allLie (length img) ns k ≡ false
+  pub never-lie : (x : Image) (i k : ℕ) → Putting img ns x i → i < k → lies (length x) (at ns (3 + 2 * i)) ≡ false → allLie (length img) ns k ≡ false
   never-lie x i k f l e = none-lie i k l (rw (f .long) at e)
 
--- the first bytes of zeros
-take-zeros : (n m : ℕ) → n ≤ m → take n (zeroBytes m) ≡ zeroBytes n
-unfolding zeroBytes
-take-zeros zero m l = refl
-take-zeros (suc n) zero l = absurd (omega arith)
-take-zeros (suc n) (suc m) l = ap (λ (t : List ℕ). 0 ∷ t) (take-zeros n m (omega arith))
+-- the first bytes of a fill
+take-filled : (b n m : ℕ) → n ≤ m → take n (filled b m) ≡ filled b n
+unfolding filled
+take-filled b zero m l = refl
+take-filled b (suc n) zero l = absurd (omega arith)
+take-filled b (suc n) (suc m) l = ap (λ (t : List ℕ). b ∷ t) (take-filled b n m (omega arith))
 
-length-zeros : (n : ℕ) → length (zeroBytes n) ≡ n
-unfolding zeroBytes
-length-zeros n = length-replicate n 0
+length-filled : (b n : ℕ) → length (filled b n) ≡ n
+unfolding filled
+length-filled b n = length-replicate n b
 
-pub zeros-front : (x : Image) (n m : ℕ) → x ≡ zeroBytes m → n ≤ m → take n x ≡ zeroBytes n
-zeros-front x n m e l = rw e (take-zeros n m l)
+pub filled-front : (x : Image) (b n m : ℕ) → x ≡ filled b m → n ≤ m → take n x ≡ filled b n
+filled-front x b n m e l = rw e (take-filled b n m l)
 
-pub zeros-count : (x : Image) (n m : ℕ) → x ≡ zeroBytes m → n ≤ m → n ≡ length (take n x)
-zeros-count x n m e l = rw (zeros-front x n m e l) (sym (length-zeros n))
+pub filled-count : (x : Image) (b n m : ℕ) → x ≡ filled b m → n ≤ m → n ≡ length (take n x)
+filled-count x b n m e l = rw (filled-front x b n m e l) (sym (length-filled b n))
 
--- an image of zeros with the words put in, or not
-module _ (ns : List ℕ) (n k : ℕ) (q : Request) (fuse : ℕ) (img : Image) (z : img ≡ zeroBytes n) (b : Bool) (e : b ≡ allLie (length img) ns k) where
-  fits : allLie n ns k ≡ b
-  fits = ap (λ (l : ℕ). allLie l ns k) (sym (length-zeros n)) ∙ ap (λ (x : Image). allLie (length x) ns k) (sym z) ∙ sym e
+-- a filled image with the words put in, or not
+module _ (ns : List ℕ) (n b k : ℕ) (q : Request) (fuse : ℕ) (img : Image) (z : img ≡ filled b n) (t : Bool) (e : t ≡ allLie (length img) ns k) where
+  fits : allLie n ns k ≡ t
+  fits = ap (λ (l : ℕ). allLie l ns k) (sym (length-filled b n)) ∙ ap (λ (x : Image). allLie (length x) ns k) (sym z) ∙ sym e
 
-  pub ran-not : b ≡ false → Malformed ≡ ranOf ns (Asked n k q fuse)
+  pub ran-not : t ≡ false → Malformed ≡ ranOf ns (Asked n b k q fuse)
   ran-not f = rw (fits ∙ f)
 
-  pub ran-done : b ≡ true → (x : Image) → x ≡ carry img (words ns k) → (o : Outcome) → o ≡ outcomeOf x q fuse → Done o ≡ ranOf ns (Asked n k q fuse)
-  ran-done t x c o d = rw (fits ∙ t, d, c, z)
+  pub ran-done : t ≡ true → (x : Image) → x ≡ carry img (words ns k) → (o : Outcome) → o ≡ outcomeOf x q fuse → Done o ≡ ranOf ns (Asked n b k q fuse)
+  ran-done f x c o d = rw (fits ∙ f, d, c, z)

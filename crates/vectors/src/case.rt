@@ -1,5 +1,5 @@
-// What the numbers of a line ask: LENGTH K OFF1 WORD1 .. OFFK WORDK REQUEST A B C FUSE. Takes any numbers; those that are no case are
-// malformed.
+// What the numbers of a line ask: LENGTH FILL K OFFSET1 WORD1 .. OFFSETK WORDK REQUEST A B C FUSE. Takes any numbers; those that are no
+// case are malformed.
 ghost use mathlib.Core.Path.{_≡_};
 ghost use Rattle.vectors.specs.Cases.{requestOf, caseOf};
 use rules::Request;
@@ -8,6 +8,7 @@ use rules::Request;
 pub enum Case {
     Asked {
         length: usize,
+        fill: u8,
         words: usize,
         request: Request,
         fuse: u64,
@@ -45,15 +46,19 @@ pub fn case_of(numbers: &[u64; 256], count: usize) -> Case
     ensures { λ r. ⌜ r ≡ caseOf (now (numbers .entry)) count ⌝ }
 {
     let length = numbers[0];
-    let words = numbers[1];
+    let fill = numbers[1];
+    let words = numbers[2];
     if 65536 < length {
+        return Case::Malformed;
+    }
+    if 255 < fill {
         return Case::Malformed;
     }
     if 120 < words {
         return Case::Malformed;
     }
     let k = words as usize;
-    let at = 2 + 2 * k;
+    let at = 3 + 2 * k;
     if count != at + 5 {
         return Case::Malformed;
     }
@@ -63,6 +68,7 @@ pub fn case_of(numbers: &[u64; 256], count: usize) -> Case
     }
     Case::Asked {
         length: length as usize,
+        fill: fill as u8,
         words: k,
         request: request_of(q, numbers[at + 1], numbers[at + 2], numbers[at + 3]),
         fuse: numbers[at + 4],

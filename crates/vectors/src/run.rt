@@ -1,12 +1,12 @@
-// A case run: the image with its words, the request asked of it, a check of what it leaves, and the checksum. `run` takes any line and any
-// numbers; the parts below it ask for the bounds that `case_of` has tested.
+// A case run: the image with its fill and its words, the request asked of it, a check of what it leaves, and the checksum. `run` takes any
+// line and any numbers; the parts below it ask for the bounds that `case_of` has tested.
 ghost use mathlib.Core.Path.{_≡_};
 ghost use mathlib.Core.Bool.{true};
 ghost use Prim.Native.Nat.{_≤_};
 ghost use lib.ListN.{length};
 ghost use Rattle.rules.specs.Words.{carry};
 ghost use Rattle.vectors.specs.Cases.{mostLength, mostWords, caseOf};
-ghost use Rattle.vectors.specs.Outcomes.{lies, words, allLie, zeroBytes, outcomeOf, ranOf, ranBy};
+ghost use Rattle.vectors.specs.Outcomes.{lies, words, allLie, filled, outcomeOf, ranOf, ranBy};
 ghost use Rattle.vectors.specs.declared.case.Case.the-variants.{Asked};
 use crate::case::Case;
 use crate::line::Line;
@@ -43,15 +43,15 @@ fn word_lies(n: usize, at: u64) -> bool
 }
 
 // The words of a case put into its image, each with power for one store; false where one cannot lie there.
-fn fill(img: &mut [u8], numbers: &[u64; 256], count: usize) -> bool
+fn put_words(img: &mut [u8], numbers: &[u64; 256], count: usize) -> bool
     requires { ⌜ count ≤ mostWords ⌝ }
     ensures { λ r. ⌜ r ≡ allLie (length (now (img .entry))) (now (numbers .entry)) count ⌝ }
     ensures { λ r. ⌜ (r ≡ true → now (img .exit) ≡ carry (now (img .entry)) (words (now (numbers .entry)) count)) ⌝ }
 {
     let mut i: usize = 0;
     while i < count {
-        let at = numbers[2 + 2 * i];
-        let w = numbers[3 + 2 * i];
+        let at = numbers[3 + 2 * i];
+        let w = numbers[4 + 2 * i];
         if !word_lies(img.len(), at) {
             return false;
         }
@@ -76,22 +76,22 @@ fn tried(img: &mut [u8], request: Request, fuse: u64) -> Outcome
     }
 }
 
-// Room for every image, of zeros.
-fn blank() -> [u8; 65536]
-    ensures { λ r. ⌜ r ≡ zeroBytes mostLength ⌝ }
+// Room for every image, each byte the fill.
+fn filled(fill: u8) -> [u8; 65536]
+    ensures { λ r. ⌜ r ≡ filled fill mostLength ⌝ }
 {
-    [0; 65536]
+    [fill; 65536]
 }
 
 // A case run in an image of its own.
-fn run_case(numbers: &[u64; 256], n: usize, k: usize, request: Request, fuse: u64) -> Ran
+fn run_case(numbers: &[u64; 256], n: usize, fill: u8, k: usize, request: Request, fuse: u64) -> Ran
     requires { ⌜ n ≤ mostLength ⌝ }
     requires { ⌜ k ≤ mostWords ⌝ }
-    ensures { λ r. ⌜ r ≡ ranOf (now (numbers .entry)) (Asked n k request fuse) ⌝ }
+    ensures { λ r. ⌜ r ≡ ranOf (now (numbers .entry)) (Asked n fill k request fuse) ⌝ }
 {
-    let mut space = blank();
+    let mut space = filled(fill);
     let img = &mut space[..n];
-    if !fill(img, numbers, k) {
+    if !put_words(img, numbers, k) {
         return Ran::Malformed;
     }
     Ran::Done(tried(img, request, fuse))
@@ -104,6 +104,7 @@ fn run_numbers(numbers: &[u64; 256], count: usize) -> Ran
     let c = crate::case::case_of(numbers, count);
     let Case::Asked {
         length,
+        fill,
         words,
         request,
         fuse,
@@ -111,7 +112,7 @@ fn run_numbers(numbers: &[u64; 256], count: usize) -> Ran
     else {
         return Ran::Malformed;
     };
-    run_case(numbers, length, words, request, fuse)
+    run_case(numbers, length, fill, words, request, fuse)
 }
 
 // The case of a line that is read to its end.

@@ -21,7 +21,7 @@ returns c = ap (ranOf (now (c .before .before .before .args .numbers))) (sym (c 
 
 run-case-requires : tie.Need-run-case-requires
 run-case-requires c κs = let a = c .before .before .before .before .args in
-    asked-within (now (a .numbers)) (a .count) _ _ _ _ (sym (c .before .before .before .case-of .ensures) ∙ c .before .c .given .1)
+    asked-within (now (a .numbers)) (a .count) _ _ _ _ _ (sym (c .before .before .before .case-of .ensures) ∙ c .before .c .given .1)
 
 returns-2 : tie.Need-returns-2
 returns-2 c = c .run-case .ensures ∙ ap (ranOf (now (c .before .before .before .before .before .args .numbers))) (sym (c .before .before .c .given .1) ∙ c .before .before .before .before .case-of .ensures)

@@ -1,21 +1,22 @@
--- `fill`: after i turns the first i words lie in the image and are in it. A word that does not lie there refuses them all. Assumes nothing.
+-- `put_words`: after i turns the first i words lie in the image and are in it. A word that does not lie there refuses them all.
+-- Assumes nothing.
 use Prim.Native.Nat.{ℕ, _-_, _≤_}
 use mathlib.Core.Path.{sym, _∙_, _≡_}
 use native.Mathlib.Omega.{arith}
 use borrow.Author.Needs.{needs}
 use borrow.Author.Tests.{not-true, not-false}
-use Rattle.vectors.specs.Filling.{Filling, filling-start, filling-next, never-lie, lies-in}
-use Rattle.vectors.proofs.run.fill.Statement.{statement}
-use Rattle.vectors.proofs.run.fill.Tie as tie
+use Rattle.vectors.specs.Filling.{Putting, putting-start, putting-next, never-lie, lies-in}
+use Rattle.vectors.proofs.run.put_words.Statement.{statement}
+use Rattle.vectors.proofs.run.put_words.Tie as tie
 
 abbrev Inv-loop : tie.InvT-loop
-Inv-loop img₀ numbers count i₀ img i = (i ≤ count) × Filling img₀ numbers img i
+Inv-loop img₀ numbers count i₀ img i = (i ≤ count) × Putting img₀ numbers img i
 
 abbrev μ-loop : tie.MeasureT-loop
 μ-loop img₀ numbers count i₀ img i = count - i
 
 loop-holds : tie.Need-loop-holds Inv-loop μ-loop
-loop-holds c = (omega arith, filling-start _ _)
+loop-holds c = (omega arith, putting-start _ _)
 
 mul-at : tie.Need-mul-at Inv-loop μ-loop
 mul-at c = search needs
@@ -66,7 +67,7 @@ loop-less c = search needs
 loop-again : tie.Need-loop-again Inv-loop μ-loop
 loop-again c = let d = c .before .before .before .before .before in (
   omega arith,
-  filling-next _ _ _ _ _ (d .before .before .before .before .before .loop .inv .1)
+  putting-next _ _ _ _ _ (d .before .before .before .before .before .loop .inv .1)
       (sym (d .before .word-lies .ensures) ∙ not-false _ (d .if1 .left))
       (c .before .before .store .ensures .long)
       (rw (c .before .before .before .new .ensures) at (c .before .before .store .ensures .image)),
@@ -77,10 +78,10 @@ same-length-2 c = c .before .loop .inv .1 .long
 
 returns-2 : tie.Need-returns-2 Inv-loop μ-loop
 returns-2 c = let e : c .before .loop .i ≡ c .before .before .before .args .count = omega arith in
-    rw (← e) (sym (c .before .loop .inv .1 .lie), λ t. c .before .loop .inv .1 .filled)
+    rw (← e) (sym (c .before .loop .inv .1 .lie), λ t. c .before .loop .inv .1 .put)
 
-pub fill-spec : {M : Type 1} → statement M
-fill-spec =
+pub put-words-spec : {M : Type 1} → statement M
+put-words-spec =
     tie.close
     (tie.spec
     Inv-loop

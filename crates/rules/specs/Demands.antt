@@ -17,7 +17,7 @@ use Rattle.rules.specs.Pages.{isPool, clumpsAt}
 use Rattle.rules.specs.Clumps.{Head, bodyOf, endOf, FREE, RESERVED, ACTIVE, hasState, isLive, isPending, entries}
 use Rattle.rules.specs.Sound.{judge, unsettled}
 use Rattle.rules.specs.Answers.{done, notSound, noRoom, cutShort}
-use Rattle.rules.specs.Stores.{createCount, needOf, leastRest}
+use Rattle.rules.specs.Stores.{createCount, needOf, leastRest, splitCount, wholeCount, mostActivateCount, mostFreeCount}
 use Rattle.rules.specs.Requests.{Numbers, Does, cut, finished, finder, storesFor, answerOn, totalsOn}
 use Rattle.rules.specs.Reading.{clumpsOf, within, inPart, hidden, inSparePage}
 use Rattle.rules.specs.Traces.{isCreate}
@@ -139,12 +139,12 @@ Counted img Create r = r .stores ≡ createCount
 Counted img (Reserve size) r =
     (h : Head)
     × (finder (clumpsOf img) (r .place) ≡ some h)
-    × ((needOf size + leastRest ≤ h .nbytes → r .stores ≡ 7) × (h .nbytes < needOf size + leastRest → r .stores ≡ 4))
+    × ((needOf size + leastRest ≤ h .nbytes → r .stores ≡ splitCount) × (h .nbytes < needOf size + leastRest → r .stores ≡ wholeCount))
 Counted img (Onactive o t v) r = r .stores ≡ 2
 Counted img (Onfree o t v) r = r .stores ≡ 2
 Counted img (Withdraw o) r = r .stores ≡ 1
-Counted img (Activate o) r = (r .stores ≡ 2 + 2 * length (entriesOf (mem img) (finder (clumpsOf img) o))) × (r .stores ≤ 8)
-Counted img (Free o) r = r .stores ≤ 7
+Counted img (Activate o) r = (r .stores ≡ 2 + 2 * length (entriesOf (mem img) (finder (clumpsOf img) o))) × (r .stores ≤ mostActivateCount)
+Counted img (Free o) r = r .stores ≤ mostFreeCount
 Counted img Check r = r .stores ≡ 0
 Counted img Recover r = Unit {0}
 

@@ -1,12 +1,12 @@
 -- The reading of a small pool, to the last entry and word, and what becomes of it where one word differs; where the owner may write, what
 -- no answer depends on, the pages that are never touched, and which image a cut request reads as: sampled as one table over the
--- definitions, proved by one statement. The numbers expected follow from 01 by hand. Assumes nothing.
+-- definitions, proved by one statement. The numbers expected follow from 01 by hand. One image more is there byte for byte, for a
+-- statement that is proved in laws. Assumes nothing.
 use Prim.Native.Nat.{ℕ, zero, suc, _+_, _-_, _/_}
 use mathlib.Core.Path.{_≡_, refl}
 use mathlib.Core.Bool.{true, false}
 use mathlib.Core.List.{List, [], _∷_, _++_, map}
 use lib.ListN.{replicate}
-use Rattle.rules.specs.declared.Request.{Request}
 use Rattle.rules.specs.declared.Request.the-variants.{Create, Activate, Free}
 use Rattle.rules.specs.Words.{Image, Mem, Store, store, put, wordBytes}
 use Rattle.rules.specs.Pages.{pageBytes, clumpsAt}
@@ -15,7 +15,7 @@ use Rattle.rules.specs.Requests.{finished}
 use Rattle.rules.specs.Reading.{Reading, readingBy, reading, inPart, mayWrite, hidden, inSparePage}
 use Rattle.rules.specs.Traces.{asIf}
 use Rattle.rules.specs.Cases.{everyRule, Pool, poolOf}
-use Rattle.rules.specs.Samples.{each}
+use Rattle.rules.specs.Samples.{requestsOn}
 
 -- A pool with a clump in every state but one, the words further stored behind the others:
 -- 16384  128  ACTIVE      lists (4096, 7), (8184, 16504) and an empty entry of value 77
@@ -70,29 +70,30 @@ clump a size s = record { at = a; nbytes = size; state = s }
 abbrev pub zerosIn : ℕ → ℕ → ℕ → List ℕ
 zerosIn a k z = a ∷ (replicate k 0 ++ (z ∷ []))
 
--- the reading of that pool: its first clump in a state, with a list, the first word of the static area and that of the first body
-abbrev pub told : ℕ → List Store → ℕ → ℕ → Reading
-told s list static body =
+-- the reading of that pool: its first clump in a state, the lists that are read before the RESERVED clump's, the first word of the static
+-- area and that of the first body
+abbrev pub told : ℕ → List (List Store) → ℕ → ℕ → Reading
+told s lists static body =
     record {
       clumps = clump 16384 128 s ∷ clump 16512 128 0 ∷ clump 16640 192 1 ∷ clump 16832 128 2 ∷ [];
-      lists = list ∷ (store 16448 9 ∷ []) ∷ [];
+      lists = lists ++ ((store 16448 9 ∷ []) ∷ []);
       static = zerosIn static 510 3;
       bodies = zerosIn body 6 12 ∷ zerosIn 15 14 16 ∷ zerosIn 17 6 18 ∷ [];
     }
 
-abbrev pub firstList : List Store
-firstList = store 4096 7 ∷ store 8184 16504 ∷ []
+abbrev pub firstList : List (List Store)
+firstList = (store 4096 7 ∷ store 8184 16504 ∷ []) ∷ []
 
 -- a pool of one ACTIVE clump as an image, byte for byte: it lists (4104, 9)
-abbrev pub word : ℕ → Image
-word w = put (replicate wordBytes 0) 0 w
+abbrev pub inBytes : ℕ → Image
+inBytes w = put (replicate wordBytes 0) 0 w
 
 abbrev pub oneClump : Image
 oneClump =
     replicate pageBytes 1
     ++ (zerosIn 2 4094 3
     ++ (replicate (pageBytes + pageBytes) 4
-    ++ (word 128 ++ (word 3 ++ (word 4104 ++ (word 9 ++ (replicate 32 0 ++ zerosIn 5 62 6)))))))
+    ++ (inBytes 128 ++ (inBytes 3 ++ (inBytes 4104 ++ (inBytes 9 ++ (replicate 32 0 ++ zerosIn 5 62 6)))))))
 
 -- its reading
 abbrev pub OneClumpReads : Type 0
@@ -109,20 +110,26 @@ abbrev pub ReadingSamples : Type 0
 ReadingSamples =
     -- the pool; then another listed value, another listed target, an entry more, another word of the static area, of the first body
     (reads (kiln []) ≡ told 3 firstList 2 11)
-    × (reads (kiln (store 16408 8 ∷ [])) ≡ told 3 (store 4096 8 ∷ store 8184 16504 ∷ []) 2 11)
-    × (reads (kiln (store 16400 4104 ∷ [])) ≡ told 3 (store 4104 7 ∷ store 8184 16504 ∷ []) 2 11)
-    × (reads (kiln (store 16432 4104 ∷ [])) ≡ told 3 (store 4096 7 ∷ store 8184 16504 ∷ store 4104 77 ∷ []) 2 11)
+    × (reads (kiln (store 16408 8 ∷ [])) ≡ told 3 ((store 4096 8 ∷ store 8184 16504 ∷ []) ∷ []) 2 11)
+    × (reads (kiln (store 16400 4104 ∷ [])) ≡ told 3 ((store 4104 7 ∷ store 8184 16504 ∷ []) ∷ []) 2 11)
+    × (reads (kiln (store 16432 4104 ∷ [])) ≡ told 3 ((store 4096 7 ∷ store 8184 16504 ∷ store 4104 77 ∷ []) ∷ []) 2 11)
     × (reads (kiln (store 4096 258 ∷ [])) ≡ told 3 firstList 258 11)
     × (reads (kiln (store 16448 267 ∷ [])) ≡ told 3 firstList 2 267)
     -- another state: RESERVED, whose list is read too, and FREEING, whose list is not
     × (reads (kiln (store 16392 1 ∷ [])) ≡ told 1 firstList 2 11)
-    × (reads (kiln (store 16392 4 ∷ [])) .lists ≡ (store 16448 9 ∷ []) ∷ [])
-    × (reads (kiln (store 16392 4 ∷ [])) .clumps ≡ told 4 firstList 2 11 .clumps)
-    × (reads (kiln (store 16392 4 ∷ [])) .bodies ≡ told 4 firstList 2 11 .bodies)
+    × (reads (kiln (store 16392 4 ∷ [])) ≡ told 4 [] 2 11)
     -- another size: the clump behind is in the first one's body then
-    × (reads (kiln (store 16384 256 ∷ [])) .clumps ≡ clump 16384 256 3 ∷ clump 16640 192 1 ∷ clump 16832 128 2 ∷ [])
-    × (reads (kiln (store 16384 256 ∷ [])) .bodies
-    ≡ (zerosIn 11 6 12 ++ (128 ∷ 0 ∷ 4104 ∷ 3 ∷ (replicate 4 0 ++ zerosIn 13 6 14))) ∷ zerosIn 15 14 16 ∷ zerosIn 17 6 18 ∷ [])
+    × (reads (kiln (store 16384 256 ∷ []))
+    ≡ record {
+      clumps = clump 16384 256 3 ∷ clump 16640 192 1 ∷ clump 16832 128 2 ∷ [];
+      lists = told 3 firstList 2 11 .lists;
+      static = told 3 firstList 2 11 .static;
+      bodies =
+          (zerosIn 11 6 12 ++ (128 ∷ 0 ∷ 4104 ∷ 3 ∷ (replicate 4 0 ++ zerosIn 13 6 14)))
+          ∷ zerosIn 15 14 16
+          ∷ zerosIn 17 6 18
+          ∷ [];
+    })
     -- another word of a FREE body, of a FREE clump's list, of the value of an empty entry, of the pages 0 and 8192: the same reading
     × (map (λ o. reads (kiln (store o 99 ∷ []))) (16576 ∷ 16632 ∷ 16528 ∷ 16536 ∷ 16440 ∷ 4088 ∷ 8192 ∷ []) ≡ replicate 7 (told 3 firstList 2 11))
     -- where the owner may write: the static area, ACTIVE and RESERVED bodies; not headers, FREE and ACTIVATING bodies
@@ -136,11 +143,11 @@ ReadingSamples =
     -- the pages that are never read or written
     × (map inSparePage (0 ∷ 4095 ∷ 4096 ∷ 8191 ∷ 8192 ∷ 12287 ∷ 12288 ∷ []) ≡ true ∷ true ∷ false ∷ false ∷ true ∷ true ∷ false ∷ [])
     -- what a cut request reads as: with no store made the image before it; with one, of activate and free the finished image
-    × ((img : Image) → map (λ q. asIf img q 0) (Create ∷ each 16448) ≡ replicate 9 img)
+    × ((img : Image) → map (λ q. asIf img q 0) (Create ∷ requestsOn 16448) ≡ replicate 9 img)
     × ((img : Image) (k : ℕ)
-    → map (λ q. asIf img q (suc k)) (Create ∷ each 16448)
+    → map (λ q. asIf img q (suc k)) (Create ∷ requestsOn 16448)
     ≡ img ∷ img ∷ img ∷ img ∷ img ∷ finished img (Activate 16448) ∷ finished img (Free 16448) ∷ img ∷ img ∷ [])
 
 readingSamples : ReadingSamples
 unfolding everyRule inPart hidden inSparePage
-readingSamples = (refl, refl, refl, refl, refl, refl, refl, refl, refl, refl, refl, refl, refl, refl, refl, refl, refl, (λ img. refl), (λ img k. refl))
+readingSamples = (refl, refl, refl, refl, refl, refl, refl, refl, refl, refl, refl, refl, refl, refl, (λ img. refl), (λ img k. refl))

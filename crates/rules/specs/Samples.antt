@@ -26,12 +26,12 @@ abbrev pub answered : Pool → Request → ℕ
 answered p q = answerOf longest (verdict (p .0) (p .1) q) .answer
 
 -- its place
-abbrev pub placed : Pool → Request → ℕ
-placed p q = answerOf longest (verdict (p .0) (p .1) q) .place
+abbrev pub placeOf : Pool → Request → ℕ
+placeOf p q = answerOf longest (verdict (p .0) (p .1) q) .place
 
 -- each request but create, on the clump that has its body at o
-abbrev pub each : ℕ → List Request
-each o = Reserve 1 ∷ Onactive o 4096 1 ∷ Onfree o 4096 1 ∷ Withdraw o ∷ Activate o ∷ Free o ∷ Check ∷ Recover ∷ []
+abbrev pub requestsOn : ℕ → List Request
+requestsOn o = Reserve 1 ∷ Onactive o 4096 1 ∷ Onfree o 4096 1 ∷ Withdraw o ∷ Activate o ∷ Free o ∷ Check ∷ Recover ∷ []
 
 -- check's totals
 abbrev pub totalled : Pool → Totals
@@ -95,10 +95,10 @@ Samples =
     -- valid targets, with ACTIVE 128 and FREE 128
     × (map (isValid (walk 16640 (listing 3 (0, 0, 0) .1))) (4088 ∷ 4096 ∷ 8184 ∷ 8192 ∷ 16440 ∷ 16448 ∷ 16452 ∷ 16504 ∷ 16512 ∷ 16576 ∷ [])
     ≡ false ∷ true ∷ true ∷ false ∷ false ∷ true ∷ false ∷ true ∷ false ∷ false ∷ [])
-    -- answer 3: two FREE touch, or a clump is ACTIVATING, or FREEING; never of check and recover
-    × (map (answered (poolOf ((128, 0) ∷ (128, 0) ∷ []) [])) (each 16448) ≡ 3 ∷ 3 ∷ 3 ∷ 3 ∷ 3 ∷ 3 ∷ 0 ∷ 0 ∷ [])
-    × (map (λ s. map (answered (listing s (0, 0, 0))) (Withdraw 16448 ∷ Check ∷ Recover ∷ [])) (2 ∷ 4 ∷ [])
-    ≡ (3 ∷ 0 ∷ 0 ∷ []) ∷ (3 ∷ 0 ∷ 0 ∷ []) ∷ [])
+    -- answer 3: two FREE touch, or a clump is ACTIVATING, or FREEING; before 4, and never of check and recover
+    × (map (answered (poolOf ((128, 0) ∷ (128, 0) ∷ []) [])) (Reserve 0 ∷ requestsOn 16448) ≡ 3 ∷ 3 ∷ 3 ∷ 3 ∷ 3 ∷ 3 ∷ 3 ∷ 0 ∷ 0 ∷ [])
+    × (map (λ s. map (answered (listing s (0, 0, 0))) (Reserve 1 ∷ Withdraw 16448 ∷ Free 16448 ∷ Check ∷ Recover ∷ [])) (2 ∷ 4 ∷ [])
+    ≡ replicate 2 (3 ∷ 3 ∷ 3 ∷ 0 ∷ 0 ∷ []))
     -- answers 4, 6 and 7, with FREE 128 and ACTIVE 128
     × (map (answered (poolOf ((128, 0) ∷ (128, 3) ∷ []) [])) (Reserve 0 ∷ Activate 16384 ∷ Activate 16448 ∷ Free 16448 ∷ Withdraw 16448 ∷ Activate 16576 ∷ Onactive 16576 4096 1 ∷ [])
     ≡ 4 ∷ 6 ∷ 7 ∷ 7 ∷ 7 ∷ 7 ∷ 7 ∷ [])
@@ -108,9 +108,9 @@ Samples =
     -- answer 10 of a target that was listed and lies in a FREE body now: activate and free of an ACTIVE clump, not free of a RESERVED one
     × ((answered (listing 1 (16576, 0, 0)) (Activate 16448) ∷ answered (listing 3 (16576, 0, 0)) (Free 16448) ∷ answered (listing 1 (16576, 0, 0)) (Free 16448) ∷ []) ≡ 10 ∷ 10 ∷ 0 ∷ [])
     -- the place of a request that is done: on a RESERVED clump, and on an ACTIVE one
-    × (map (placed (listing 1 (4096, 0, 0))) (Reserve 1 ∷ Onactive 16448 4096 1 ∷ Withdraw 16448 ∷ Recover ∷ [])
+    × (map (placeOf (listing 1 (4096, 0, 0))) (Reserve 1 ∷ Onactive 16448 4096 1 ∷ Withdraw 16448 ∷ Recover ∷ [])
     ≡ 16576 ∷ 16448 ∷ 16448 ∷ 0 ∷ [])
-    × (map (placed (listing 3 (4096, 0, 0))) (Onfree 16448 4096 1 ∷ Withdraw 16448 ∷ Free 16448 ∷ []) ≡ 16448 ∷ 16448 ∷ 16448 ∷ [])
+    × (map (placeOf (listing 3 (4096, 0, 0))) (Onfree 16448 4096 1 ∷ Withdraw 16448 ∷ Free 16448 ∷ []) ≡ 16448 ∷ 16448 ∷ 16448 ∷ [])
     -- first fit: of two clumps that fit, the lower; of three, the first that is large enough
     × (map (λ size. answerOf longest (verdict 17152 (poolOf ((128, 0) ∷ (128, 3) ∷ (256, 0) ∷ (128, 3) ∷ (128, 0) ∷ []) [] .1) (Reserve size)) .place) (1 ∷ 65 ∷ 193 ∷ []) ≡ 16448 ∷ 16704 ∷ 0 ∷ [])
     -- the lists of stores: of create its first, the ends of its parts, and three words inside each run of zeros

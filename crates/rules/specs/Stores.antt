@@ -58,6 +58,13 @@ reserveStores need h =
     ∷ (emptying (slots a) ++ (store a need ∷ setState h RESERVED ∷ [])))
     (emptying (slots a) ++ (setState h RESERVED ∷ []))
 
+-- "7 stores. With a smaller rest .. 4 stores."
+abbrev pub splitCount : ℕ
+splitCount = 7
+
+abbrev pub wholeCount : ℕ
+wholeCount = 4
+
 -- "into the first empty entry, value, then target"
 abbrev pub listStores : ℕ → ℕ → ℕ → List Store
 listStores s target value = store (valueAt s) value ∷ store s target ∷ []
@@ -82,6 +89,10 @@ finishFreeing m h = entries m (h .at) ++ (setState h FREE ∷ [])
 unfoldable pub activateStores : Mem → Head → List Store
 activateStores m h = setState h ACTIVATING ∷ finishActivating m h
 
+-- "8 at most"
+abbrev pub mostActivateCount : ℕ
+mostActivateCount = 8
+
 -- "RESERVED: state FREE, list dropped. ACTIVE: .. state FREEING; the assignments in order; state FREE."
 unfoldable pub dropStores : Mem → Head → List Store
 dropStores m h = cond (hasState ACTIVE h) (setState h FREEING ∷ finishFreeing m h) (setState h FREE ∷ [])
@@ -104,6 +115,10 @@ joinBoth (some k) before h = store (h .at) (h .nbytes + k .nbytes) ∷ joinBefor
 
 unfoldable pub freeStores : Mem → List Head → Head → List Store
 freeStores m hs h = dropStores m h ++ joinBoth (freeAfter hs h) (freeBefore hs h) h
+
+-- "At most 7 stores."
+abbrev pub mostFreeCount : ℕ
+mostFreeCount = 7
 
 -- "finish the ACTIVATING clump (assign, empty the list, ACTIVE) or the FREEING one (assign, FREE)"
 abbrev pub finishing : Mem → Option Head → List Store

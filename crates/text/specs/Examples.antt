@@ -1,7 +1,6 @@
 -- Numbers as text, worked out, and proved by computing. Assumes nothing.
-use Prim.Native.Nat.{ℕ}
 use mathlib.Core.Path.{_≡_, refl}
-use mathlib.Core.List.{List, [], _∷_, map}
+use mathlib.Core.List.{[], _∷_, map}
 use Rattle.rules.specs.Pages.{codes}
 use Rattle.text.specs.Texts.{newline, digits, decimal, field}
 

@@ -44,14 +44,6 @@ wrote-next {y = y} {k = k} ds j l w = rw (add-one j, take-suc ds j 0 l) (wrote-t
 pub wrote-length : {x t y : List ℕ} {i r : ℕ} → Wrote x i t y r → length y ≡ length x
 wrote-length {x = x} {t = t} {i = i} w = ap length (w .stands) ∙ length-sets x i t
 
--- up to the place behind it stands what stood in front of it, and then the text
-pub wrote-front : {x t y : List ℕ} {i r : ℕ} → i + length t ≤ length x → Wrote x i t y r → take r y ≡ take i x ++ t
-wrote-front {x = x} {t = t} {y = y} {i = i} {r = r} l w =
-    let p = take i x ++ t in
-    let n : r ≡ length p = omega (arith, w .behind, length-append (take i x) t, length-take-le i x (omega arith)) in
-    let e : y ≡ p ++ drop (i + length t) x = w .stands ∙ sets-eq t x i l in
-    rw (e, n) (take-append-seam p (drop (i + length t) x))
-
 -- a text from the start on is what the buffer begins with, and the rest is kept; `inside` and `front` are what lending it asks
 pub record Begins (before : List ℕ) (text : List ℕ) (after : List ℕ) (r : ℕ) : Type 0 where
   pub inside : r ≤ length after

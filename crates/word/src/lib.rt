@@ -93,6 +93,12 @@ impl Power {
     }
 }
 
+// A call of a C function that the optimizer does not know. For all that it can tell the function looks at the image, which is the caller's
+// memory: so each word before the call is stored by then, and none behind it. What comes back means nothing. docs/HEARD.md has the rest.
+fn witness() {
+    let _ = libc::sysconf(-1);
+}
+
 // "while the fuse lasts it writes one word and takes one from the fuse, else it writes nothing"
 pub fn store(img: &mut [u8], p: Power, at: usize, w: u64) -> Power
     requires { ⌜ at + wordBytes ≤ length (now img) ⌝ }
@@ -109,6 +115,7 @@ pub fn store(img: &mut [u8], p: Power, at: usize, w: u64) -> Power
         };
     }
     set(img, at, w);
+    witness();
     Power {
         left: left - 1,
         made: p.made + 1,

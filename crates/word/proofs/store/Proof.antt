@@ -12,6 +12,9 @@ returns c = ran-out _ _ _ (c .if1 .taken)
 set-requires : tie.Need-set-requires
 set-requires c κs = search needs
 
+witness-requires : tie.Need-witness-requires
+witness-requires c κs = search needs
+
 sub-t10 : tie.Need-sub-t10
 sub-t10 c = search needs
 
@@ -23,9 +26,9 @@ same-length c = search needs
 
 returns-2 : tie.Need-returns-2
 returns-2 c =
-    let a = c .before .before .before .before .before .before .before .args in
-    rw (c .before .before .before .set .ensures)
+    let a = c .before .before .before .before .before .before .before .before .args in
+    rw (c .before .before .before .before .set .ensures)
     (ran-one (now (a .img)) (a .p) (store (a .at) (a .w)) (search needs) (record { even = search needs; inside = search needs; small = search needs }))
 
 pub store-spec : {M : Type 1} → statement M
-store-spec = tie.close (tie.spec returns set-requires sub-t10 add-t11 same-length returns-2)
+store-spec = tie.close (tie.spec returns set-requires witness-requires sub-t10 add-t11 same-length returns-2)

@@ -2,6 +2,7 @@
 // Holds no function. What the fields mean is said in specs/, in document 01's words.
 
 // What a request answers. The meaning of each number is in specs/Answers.antt.
+#[repr(C)]
 pub struct Answer {
     pub answer: u64,
     pub place: u64,
@@ -37,6 +38,7 @@ impl Answer {
 }
 
 // Check's byte totals: the sum of nbytes over the clumps in each state.
+#[repr(C)]
 pub struct Totals {
     pub free: u64,
     pub reserved: u64,

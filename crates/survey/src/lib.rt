@@ -124,6 +124,7 @@ pub fn survey(img: &[u8]) -> Answer
 }
 
 // What check answers, and its five totals.
+#[repr(C)]
 pub struct Checked {
     pub answer: Answer,
     pub totals: Totals,

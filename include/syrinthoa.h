@@ -1,0 +1,153 @@
+/* Syrinthoa: a persistent-memory pool in one lent piece of memory. The library for C, x86-64.
+ *
+ * Every function takes any bytes, any numbers and any fuse, tests its own input, and stores nothing if it refuses; so nothing need be
+ * tested before a call. All that a caller owes is what C always owes: `length` bytes at `image` that are its own to lend, and that nobody
+ * else writes before the call returns. A length of 0 is fine, and `image` may then be NULL.
+ *
+ * Offsets, sizes and lengths are in bytes and counted from the start of the image. "The offset of a body" is what syrinthoa_reserve answers
+ * as its place; requests name a clump by it. Words are 8 bytes, least significant byte first, at offsets divisible by 8.
+ *
+ * Each request is a list of word stores. The library makes them one by one: each word by one store of 8 bytes, once, in the list's order,
+ * and nothing else into the image. Where the image begins at an address divisible by 8, as mapped memory does, these are aligned words, and
+ * the words that a power loss leaves are those of some beginning of the list, if the machine stores an aligned word whole or not at all and
+ * in the order asked. What lies behind the processor's store, as its caches, is the caller's to flush.
+ *
+ * The functions keep nothing between calls, take no memory, and start no thread. The one thing that they call is sysconf(-1), after each
+ * word, so that the compiler keeps the words apart (docs/HEARD.md); like any call of the C library it may set errno.
+ * Where there is no C library, define
+ *
+ *     long sysconf(int name) { return -1; }
+ *
+ * in a file of its own. */
+#ifndef SYRINTHOA_H
+#define SYRINTHOA_H
+
+#include <stddef.h>
+#include <stdint.h>
+
+#ifdef __cplusplus
+extern "C" {
+#endif
+
+/* What a request answers. */
+struct syrinthoa_answer {
+    uint64_t answer; /* SYRINTHOA_DONE, SYRINTHOA_CUT, or why it was refused */
+    uint64_t place;  /* done: reserve the new body's offset; create, check and recover 0; others the offset asked about. Not sound: the
+                        header offset of the clump at fault. Else 0 */
+    uint64_t fault;  /* not sound: one of SYRINTHOA_FAULT_..; else 0 */
+    uint64_t stores; /* how many words were stored, also where a word kept its value */
+};
+
+/* Answers, in the order of the tests: the first that holds is given. 1 to 10 are refusals, and store nothing. */
+enum {
+    SYRINTHOA_DONE = 0,
+    SYRINTHOA_NOT_A_POOL = 1,  /* the length (16,512 to 1,073,741,824, divisible by 64), the signature, the total size or the padding */
+    SYRINTHOA_NOT_SOUND = 2,   /* a fault in a clump; `fault` says which, `place` where */
+    SYRINTHOA_UNSETTLED = 3,   /* a power loss left something unfinished: ask for recovery first */
+    SYRINTHOA_SIZE_ZERO = 4,
+    SYRINTHOA_NO_ROOM = 5,     /* no FREE clump is large enough */
+    SYRINTHOA_NO_CLUMP = 6,    /* no clump has its body at that offset */
+    SYRINTHOA_WRONG_STATE = 7, /* the clump's state does not allow it */
+    SYRINTHOA_LIST_FULL = 8,   /* three assignments are listed */
+    SYRINTHOA_LIST_EMPTY = 9,
+    SYRINTHOA_BAD_TARGET = 10, /* a target is not a word of the static area or of a body that isn't FREE */
+    SYRINTHOA_CUT = 11         /* the fuse did not last: the first so many words of the list are stored, and no other */
+};
+
+/* Faults, as answer 2 names them. */
+enum {
+    SYRINTHOA_FAULT_SIZE = 1,
+    SYRINTHOA_FAULT_STATE = 2,
+    SYRINTHOA_FAULT_LIST = 3,
+    SYRINTHOA_FAULT_SECOND_UNFINISHED = 4,
+    SYRINTHOA_FAULT_UNFINISHED_TARGET = 5
+};
+
+/* States of a clump, the word at 8 of its header. */
+enum {
+    SYRINTHOA_FREE = 0,
+    SYRINTHOA_RESERVED = 1,
+    SYRINTHOA_ACTIVATING = 2,
+    SYRINTHOA_ACTIVE = 3,
+    SYRINTHOA_FREEING = 4
+};
+
+/* Bytes of the clumps in each state, headers included. */
+struct syrinthoa_totals {
+    uint64_t free;
+    uint64_t reserved;
+    uint64_t activating;
+    uint64_t active;
+    uint64_t freeing;
+};
+
+/* What a check answers. */
+struct syrinthoa_checked {
+    struct syrinthoa_answer answer;
+    struct syrinthoa_totals totals;
+};
+
+/* The fuse of one who means no cut: more stores than any list has. A smaller one is for trying what a power loss leaves. */
+#define SYRINTHOA_LASTING UINT64_C(18446744073709551615)
+
+/* The owner's static area: 512 words, which targets may name. */
+#define SYRINTHOA_STATIC 4096
+#define SYRINTHOA_STATIC_END 8192
+
+/* Makes a pool over whatever the image held: one FREE clump, and a static area of zeros. The bytes below 4096, those from 8192 to 12287 and
+ * those from 16448 on stay as they are.
+ * Answers DONE, place 0; NOT_A_POOL, for a wrong length alone; CUT.
+ * A power loss after the first word and before the last leaves no pool, whatever stood there before: create again. */
+struct syrinthoa_answer syrinthoa_create(uint8_t *image, size_t length, uint64_t fuse);
+
+/* Takes a body of `size` bytes or more from the first FREE clump with room. It is RESERVED: the caller's to fill, and gone after a power
+ * loss unless it is activated first. It is not cleared.
+ * Answers DONE, with the body's offset as place; NOT_A_POOL, NOT_SOUND, UNSETTLED, SIZE_ZERO, NO_ROOM; CUT.
+ * After a power loss and recovery the pool reads as if it had not been asked. */
+struct syrinthoa_answer syrinthoa_reserve(uint8_t *image, size_t length, uint64_t size, uint64_t fuse);
+
+/* Lists an assignment: when the RESERVED clump is activated, the word at `target` becomes `value`. Three at most.
+ * Answers DONE, with the offset as place; NOT_A_POOL, NOT_SOUND, UNSETTLED, NO_CLUMP, WRONG_STATE, LIST_FULL, BAD_TARGET; CUT.
+ * After a power loss and recovery the pool reads as if it had not been asked. */
+struct syrinthoa_answer syrinthoa_onactive(
+    uint8_t *image, size_t length, uint64_t offset, uint64_t target, uint64_t value, uint64_t fuse);
+
+/* Lists an assignment: when the ACTIVE clump is freed, the word at `target` becomes `value`. Three at most.
+ * Answers as syrinthoa_onactive.
+ * Cut short by a power loss, and recovered, it reads as if it had not been asked; once it is done, it stays. */
+struct syrinthoa_answer syrinthoa_onfree(
+    uint8_t *image, size_t length, uint64_t offset, uint64_t target, uint64_t value, uint64_t fuse);
+
+/* Takes back the last assignment that the RESERVED or ACTIVE clump lists.
+ * Answers DONE, with the offset as place; NOT_A_POOL, NOT_SOUND, UNSETTLED, NO_CLUMP, WRONG_STATE, LIST_EMPTY; CUT.
+ * It is one store: a power loss leaves it done or not begun. */
+struct syrinthoa_answer syrinthoa_withdraw(uint8_t *image, size_t length, uint64_t offset, uint64_t fuse);
+
+/* Carries out the RESERVED clump's assignments, in order, empties its list, and makes it ACTIVE: it now outlasts a power loss.
+ * Answers DONE, with the offset as place; NOT_A_POOL, NOT_SOUND, UNSETTLED, NO_CLUMP, WRONG_STATE, BAD_TARGET; CUT.
+ * A power loss before the first word leaves it RESERVED, to be recovered as FREE with no assignment made; after the first word, recovery
+ * finishes it: every assignment is made, and the clump is ACTIVE. */
+struct syrinthoa_answer syrinthoa_activate(uint8_t *image, size_t length, uint64_t offset, uint64_t fuse);
+
+/* Frees the clump, and joins it to the FREE clumps beside it. Of an ACTIVE clump the assignments are carried out first, in order; the list
+ * of a RESERVED one is dropped.
+ * Answers DONE, with the offset as place; NOT_A_POOL, NOT_SOUND, UNSETTLED, NO_CLUMP, WRONG_STATE, BAD_TARGET; CUT.
+ * A power loss before the first word leaves the clump as it was; after it, recovery finishes the request. */
+struct syrinthoa_answer syrinthoa_free(uint8_t *image, size_t length, uint64_t offset, uint64_t fuse);
+
+/* Judges the image, and adds up the bytes in each state. It stores nothing.
+ * Answers DONE, with totals that add up to the length less 16384; NOT_A_POOL, NOT_SOUND, with totals of 0. */
+struct syrinthoa_checked syrinthoa_check(const uint8_t *image, size_t length);
+
+/* Finishes or undoes what a power loss left: an ACTIVATING clump becomes ACTIVE and a FREEING one FREE, their assignments made; RESERVED
+ * clumps become FREE; touching FREE clumps are joined. To be asked first after every start. An offset held from before may now name another
+ * clump, and must be dropped.
+ * Answers DONE, place 0; NOT_A_POOL, NOT_SOUND; CUT. Asked again, it stores nothing.
+ * After a power loss in it, ask again: it ends in the same reading, however often it is cut. */
+struct syrinthoa_answer syrinthoa_recover(uint8_t *image, size_t length, uint64_t fuse);
+
+#ifdef __cplusplus
+}
+#endif
+
+#endif

@@ -1,0 +1,111 @@
+"""Tests of the comparison: each way in which a call can go wrong is told."""
+
+import unittest
+
+import hearing
+from build import MIXED, MIXED_ACTIVE, case
+from hearing import BUILDS, Call, Heard, Store, asked, calls_heard, compare, verdict
+
+
+def stores(*pairs):
+    return [Store(offset, word.to_bytes(8, "little")) for offset, word in pairs]
+
+
+LIST = stores((8, 1), (16, 0), (24, 0), (8, 2))
+
+
+class TestVerdict(unittest.TestCase):
+    def test_exact(self):
+        self.assertEqual(verdict(LIST, Heard(list(LIST), True)), "exact")
+        self.assertEqual(verdict([], Heard([], True)), "exact")
+
+    def test_two_words_by_one_store(self):
+        wide = [LIST[0], Store(16, bytes(16)), LIST[3]]
+        self.assertEqual(verdict(LIST, Heard(wide, True)), "joined")
+
+    def test_another_order(self):
+        self.assertEqual(verdict(LIST, Heard([LIST[0], LIST[2], LIST[1], LIST[3]], True)), "reordered")
+
+    def test_a_store_too_few(self):
+        for at in range(len(LIST)):
+            self.assertEqual(verdict(LIST, Heard(LIST[:at] + LIST[at + 1:], True)), "lost")
+
+    def test_a_store_too_many(self):
+        for at in range(len(LIST)):
+            self.assertEqual(verdict(LIST, Heard(LIST[:at] + LIST[at:at + 1] + LIST[at:], True)), "wrong")
+        self.assertEqual(verdict([], Heard(LIST[:1], True)), "wrong")
+
+    def test_another_word_or_offset(self):
+        self.assertEqual(verdict(LIST, Heard(LIST[:3] + stores((8, 3)), True)), "wrong")
+        self.assertEqual(verdict(LIST, Heard(LIST[:3] + stores((0, 2)), True)), "wrong")
+
+    def test_a_word_in_two_halves(self):
+        halves = [Store(8, LIST[0].data[:4]), Store(12, LIST[0].data[4:])]
+        self.assertEqual(verdict(LIST, Heard(halves + LIST[1:], True)), "wrong")
+
+    def test_a_change_that_no_store_made(self):
+        self.assertEqual(verdict(LIST, Heard(list(LIST), False)), "changed unheard")
+
+
+class TestRecord(unittest.TestCase):
+    def test_calls(self):
+        lines = ["call 1\n", "8 8 0100000000000000\n", "-8 4 01020304\n", "end\n",
+                 "call 2\n", "unheard 100\n", "end\n"]
+        self.assertEqual(calls_heard(lines), [
+            Heard([Store(8, b"\1\0\0\0\0\0\0\0"), Store(-8, b"\1\2\3\4")], True), Heard([], False)])
+
+    def test_a_call_that_is_missing(self):
+        with self.assertRaises(AssertionError):
+            calls_heard(["call 2\n", "end\n"])
+
+
+class TestCompare(unittest.TestCase):
+    def setUp(self):
+        self.call = Call(0, case(MIXED, "free", MIXED_ACTIVE))
+        self.wanted = asked(self.call.case)
+        self.answered = [*self.wanted.answer]
+
+    def test_exact(self):
+        self.assertTrue(compare([self.call], [Heard(self.wanted.stores, True)], [self.answered]).is_exact())
+
+    # FREEING, two assignments, FREE, and the join with the FREE clump behind it.
+    def test_the_model_s_list(self):
+        self.assertEqual(self.wanted.stores, stores((16392, 4), (4096, 11), (16448, 12), (16392, 0), (16384, 448)))
+
+    def test_a_lost_store(self):
+        report = compare([self.call], [Heard(self.wanted.stores[1:], True)], [self.answered])
+        self.assertFalse(report.is_exact())
+        self.assertEqual(report.verdicts[(BUILDS[0], "free"), "lost"], 1)
+
+    def test_a_wrong_answer(self):
+        for at in range(4):
+            self.answered[at] += 1
+            self.assertFalse(compare([self.call], [Heard(self.wanted.stores, True)], [self.answered]).is_exact())
+            self.answered[at] -= 1
+
+    def test_a_call_that_was_not_made(self):
+        with self.assertRaises(AssertionError):
+            compare([self.call], [], [])
+
+
+class TestCalls(unittest.TestCase):
+    # "every request, granted and refused, every cut": and both builds.
+    def test_what_is_called(self):
+        calls = hearing.all_calls()
+        self.assertGreaterEqual(len(calls), 5000)
+        self.assertEqual(len(set(calls)), len(calls))
+        answers = {(call.build, call.case.name, asked(call.case).answer.answer) for call in calls}
+        for build in (0, 1):
+            for name in pool_requests(build):
+                self.assertIn((build, name, 0), answers)
+                self.assertIn((build, name, 1), answers)
+        for name in pool_requests(0):
+            self.assertEqual((0, name, 11) in answers, name != "check")
+
+
+def pool_requests(build):
+    return [name for name in hearing.REQUEST_NAMES if build == 0 or name != "check"]
+
+
+if __name__ == "__main__":
+    unittest.main()

@@ -2,7 +2,7 @@
  *
  *     caller MEMORY < CALLS
  *
- * MEMORY is a file of HEARD_BYTES bytes. A line is BUILD and then a case as tests/README.md has it:
+ * MEMORY is a file, which is made HEARD_BYTES long. A line is BUILD and then a case as tests/README.md has it:
  *
  *     BUILD LENGTH FILL K OFFSET1 WORD1 .. OFFSETK WORDK REQUEST A B C FUSE
  *
@@ -144,7 +144,7 @@ int main(int count, char **arguments) {
         return 2;
     }
     int file = open(arguments[1], O_RDWR);
-    if (file < 0) die(arguments[1]);
+    if (file < 0 || ftruncate(file, HEARD_BYTES) != 0) die(arguments[1]);
     void *wanted = (void *)HEARD_AT;
     uint8_t *memory = mmap(wanted, HEARD_BYTES, PROT_READ | PROT_WRITE, MAP_SHARED | MAP_FIXED_NOREPLACE, file, 0);
     if (memory != wanted) die("caller: mmap");

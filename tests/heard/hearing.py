@@ -246,7 +246,7 @@ def hear(emulator, recorder, caller, calls):
     """
     with tempfile.TemporaryDirectory() as folder:
         memory, record = Path(folder, "memory"), Path(folder, "record")
-        memory.write_bytes(bytes(HEARD_BYTES))
+        memory.touch()
         plugin = "%s,memory=%s,record=%s" % (recorder, memory, record)
         done = subprocess.run(
             [emulator, "-plugin", plugin, caller, str(memory)], check=True,
@@ -256,10 +256,6 @@ def hear(emulator, recorder, caller, calls):
             heard = calls_heard(lines)
     answers = [list(map(int, line.split())) for line in done.stdout.splitlines()]
     return heard[:2], heard[2:], answers[2:]
-
-
-# As heard.h has it.
-HEARD_BYTES = 8192 + 65536 + 4096
 
 
 def main(arguments):

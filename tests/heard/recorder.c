@@ -2,9 +2,10 @@
  *
  *     qemu-x86_64 -plugin recorder.so,memory=FILE,record=FILE PROGRAM
  *
- * memory is the file that the program has mapped at HEARD_AT; here it is mapped too, so that a word is read just after it was stored. The
- * record has, for each call, the line "call N", a line "OFFSET WIDTH BYTES" for each store, in order (the offset in the image; the bytes in
- * hexadecimal, first to last), a line "unheard OFFSET" if the memory changed otherwise than by these stores, and the line "end".
+ * memory is the file that the program has mapped at HEARD_AT; here it is mapped too, so that a word is read just after it was stored. (The
+ * program gives it its length; nothing of it is read before the first mark.) The record has, for each call, the line "call N", a line
+ * "OFFSET WIDTH BYTES" for each store, in order (the offset in the image; the bytes in hexadecimal, first to last), a line "unheard OFFSET"
+ * if the memory changed otherwise than by these stores, and the line "end".
  *
  * A store of 16 bytes comes as two calls of heard(), so that a store is what one instruction has stored. The program stores into no other
  * page that counts and starts no thread. The interface's few prototypes are written out, so that nothing but a compiler is needed. */

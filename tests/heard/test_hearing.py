@@ -1,6 +1,7 @@
 """Tests of the comparison: each way in which a call can go wrong is told."""
 
 import unittest
+from collections import Counter
 
 import hearing
 from build import MIXED, MIXED_ACTIVE, case
@@ -89,18 +90,37 @@ class TestCompare(unittest.TestCase):
 
 
 class TestCalls(unittest.TestCase):
-    # "every request, granted and refused, every cut": and both builds.
+    @classmethod
+    def setUpClass(cls):
+        cls.calls = hearing.all_calls()
+
+    # "every request, granted and refused": in both builds, and with no image at all.
     def test_what_is_called(self):
-        calls = hearing.all_calls()
-        self.assertGreaterEqual(len(calls), 5000)
-        self.assertEqual(len(set(calls)), len(calls))
-        answers = {(call.build, call.case.name, asked(call.case).answer.answer) for call in calls}
+        self.assertGreaterEqual(len(self.calls), 5000)
+        self.assertEqual(len(set(self.calls)), len(self.calls))
+        answers = {(call.build, call.case.name, asked(call.case).answer.answer) for call in self.calls}
         for build in (0, 1):
             for name in pool_requests(build):
                 self.assertIn((build, name, 0), answers)
                 self.assertIn((build, name, 1), answers)
-        for name in pool_requests(0):
-            self.assertEqual((0, name, 11) in answers, name != "check")
+            empty = {call.case.name for call in self.calls if call.build == build and not call.case.image}
+            self.assertEqual(empty, set(pool_requests(build)))
+
+    # "every cut": each list is called with every fuse up to one that has a store to
+    # spare; create's, which is the same for every image, over one of them.
+    def test_every_cut(self):
+        fuses = {}
+        for build, one in self.calls:
+            if build == 0 and one.name != "check":
+                fuses.setdefault(one._replace(fuse=hearing.LARGEST), set()).add(one.fuse)
+        found = Counter()
+        for one, called in fuses.items():
+            stores = asked(one).answer.stores
+            if stores:
+                found[one.name, called.issuperset(range(stores + 2))] += 1
+        for name in pool_requests(1):
+            self.assertGreater(found[name, True], 0)
+            self.assertTrue(name == "create" or found[name, False] == 0)
 
 
 def pool_requests(build):

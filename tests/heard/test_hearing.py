@@ -105,6 +105,8 @@ class TestCalls(unittest.TestCase):
                 self.assertIn((build, name, 1), answers)
             empty = {call.case.name for call in self.calls if call.build == build and not call.case.image}
             self.assertEqual(empty, set(pool_requests(build)))
+        self.assertEqual({(build, name) for build, name, answer in answers if answer == 11},
+                         {(0, name) for name in pool_requests(1)})
 
     # "every cut": each list is called with every fuse up to one that has a store to
     # spare; create's, which is the same for every image, over one of them.

@@ -63,7 +63,7 @@ free-few m hs h =
     omega (arith, length-append (dropStores m h) (joinBoth (freeAfter hs h) (freeBefore hs h) h), drop-few m h, both-few (freeAfter hs h) (freeBefore hs h) h)
 
 -- the answer of a grant
-counted : (img : Image) (q : Request) (p : ℕ) (st : List Store) → Grants (length img) (mem img) q p st → Counted img q (answerAt false p (length st))
+counted : (img : Image) (q : Request) (p : ℕ) (st : List Store) → Grants (length img) (mem img) q p st → Counted img q (answerAt false p st)
 counted img Create p st e = ap length e ∙ create-length (length img)
 counted img (Reserve size) p st g = (
   g .clump,

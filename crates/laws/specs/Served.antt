@@ -37,7 +37,7 @@ unfolding answerOf carry
 refuses G img fuse (refused a p f) k = (omega arith, λ l u. (refl, rw (take-nil {A = Store} fuse)), k .2)
 refuses G img fuse (granted p st) k = go (ltb fuse (length st))
   where
-    go : (b : Bool) → let r = answerAt b p (length (take fuse st)) in (r .answer ≤ cutShort) × (done < r .answer → r .answer < cutShort → (r .stores ≡ 0) × (carry img (take fuse st) ≡ img)) × ((r .answer ≡ notSound → ⊥) → r .fault ≡ 0)
+    go : (b : Bool) → let r = answerAt b p (take fuse st) in (r .answer ≤ cutShort) × (done < r .answer → r .answer < cutShort → (r .stores ≡ 0) × (carry img (take fuse st) ≡ img)) × ((r .answer ≡ notSound → ⊥) → r .fault ≡ 0)
     go true = (omega arith, λ l u. absurd (omega arith), λ e. refl)
     go false = (omega arith, λ l u. absurd (omega arith), λ e. refl)
 
@@ -56,7 +56,7 @@ fused G fuse (refused a p f) k =
     (((λ e. absurd (omega arith)), (λ e. absurd (omega arith))), rw (take-nil {A = Store} fuse))
 fused G fuse (granted p st) k = go (ltb fuse (length st)) refl
   where
-    go : (b : Bool) → ltb fuse (length st) ≡ b → let r = answerAt b p (length (take fuse st)) in ((r .answer ≡ cutShort) ↔ (fuse < length st)) × (r .stores ≡ length (take fuse st))
+    go : (b : Bool) → ltb fuse (length st) ≡ b → let r = answerAt b p (take fuse st) in ((r .answer ≡ cutShort) ↔ (fuse < length st)) × (r .stores ≡ length (take fuse st))
     go true e = let l = ltb-true fuse (length st) e in (((λ z. l), (λ z. refl)), refl)
     go false e = let l = ltb-false fuse (length st) e in (((λ z. absurd (omega arith)), (λ z. absurd (omega arith))), refl)
 
@@ -100,9 +100,9 @@ unfolding verdict ifSettled ifSound reserve
 reserve-served img size s l = rw (s .pool, s .sound, s .calm, ne-eqb size 0 (λ e. absurd (omega arith)))
 
 -- a grant is not "no room"
-granted-room : (b : Bool) (p k : ℕ) → answerAt b p k .answer ≡ noRoom → ⊥
-granted-room true p k z = omega arith
-granted-room false p k z = omega arith
+granted-room : (b : Bool) (p : ℕ) (st : List Store) → answerAt b p st .answer ≡ noRoom → ⊥
+granted-room true p st z = omega arith
+granted-room false p st z = omega arith
 
 pub no-room : NoRoom
 unfolding answerOf

@@ -14,12 +14,12 @@ use Rattle.rules.specs.Words.{Image, Mem, Store, mem, store}
 use Rattle.rules.specs.Pages.{clumpsAt}
 use Rattle.rules.specs.Clumps.{Head, head, isPending, stateAt, ACTIVATING, ACTIVE, FREE}
 use Rattle.rules.specs.Sound.{targetFault}
-use Rattle.rules.specs.Answers.{granted, ifSound, answerAt}
+use Rattle.rules.specs.Answers.{granted, ifSound}
 use Rattle.rules.specs.Stores.{finishActivating, finishFreeing, finishing, releasing, released, runs, joining, recoverStores}
 use Rattle.rules.specs.Requests.{Does, verdict}
 use Rattle.rules.specs.Reading.{clumpsOf, Tiled}
 use Rattle.word.specs.declared.Power.{Power}
-use Rattle.word.specs.Runs.{full, Ran, ran-then, ran-as, ran-whole, ran-cut}
+use Rattle.word.specs.Runs.{full, Ran, told, ran-then, ran-as, ran-whole, ran-cut}
 use Rattle.laws.specs.Walks.{walk-reads, walk-is, no-faults}
 use Rattle.laws.specs.Pools.{Sound, pool-tiles}
 use Rattle.laws.specs.Mending.{settle, freed, map-released, tiles-settle, tiles-freed, finish-reads, release-reads, releasing-settle}
@@ -77,7 +77,7 @@ module _ (img : Image) (s : Sound (length img) (mem img)) where
       released-clumps = freed-clumps ∙ ap (map freed) settled-clumps ∙ map-released clumpsAt (length img) (clumpsOf img) tiled
 
   -- the whole
-  pub recover-does : {x : Image} {q : Power} {a : Answer} (fuse : ℕ) → Ran img (full fuse) (recoverStores (mem img) (clumpsOf img)) x q → a ≡ answerAt (q .cut) 0 (q .made) → Does img Recover fuse x a
+  pub recover-does : {x : Image} {q : Power} {a : Answer} (fuse : ℕ) → Ran img (full fuse) (recoverStores (mem img) (clumpsOf img)) x q → a ≡ told q 0 → Does img Recover fuse x a
   unfolding verdict ifSound
   recover-does fuse r e = acts-does (granted 0 (recoverStores (mem img) (clumpsOf img))) (rw (s .pool, s .sound)) (acts-ran fuse 0 r e)
 
@@ -103,7 +103,7 @@ module _ (img : Image) (s : Sound (length img) (mem img)) where
     uncut : p .cut ≡ false
     uncut = ap (λ (k : Power). k .cut) fresh
 
-    pub cut-first : {a : Answer} → q .cut ≡ true → a ≡ answerAt (q .cut) 0 (q .made) → Does img Recover fuse x a
+    pub cut-first : {a : Answer} → q .cut ≡ true → a ≡ told q 0 → Does img Recover fuse x a
     cut-first e f = recover-does fuse (ran-as _ _ stores (ran-cut fuse F (R ++ J) first e)) f
 
     module _ {y : Image} {u : Power} (e : q .cut ≡ false) (t : Ran x q (releasing (clumpsOf x)) y u) where
@@ -111,10 +111,10 @@ module _ (img : Image) (s : Sound (length img) (mem img)) where
       unfolding R
       second = ran-then first (rw (released-stores r uncut e) at t)
 
-      pub cut-second : {a : Answer} → u .cut ≡ true → a ≡ answerAt (u .cut) 0 (u .made) → Does img Recover fuse y a
+      pub cut-second : {a : Answer} → u .cut ≡ true → a ≡ told u 0 → Does img Recover fuse y a
       cut-second f g = recover-does fuse (ran-as _ _ (stores ∙ sym (append-assoc F R J)) (ran-cut fuse (F ++ R) J second f)) g
 
-      pub cut-never : {z : Image} {v : Power} {a : Answer} → u .cut ≡ false → Ran y u (joining (runs (clumpsOf y))) z v → a ≡ answerAt (v .cut) 0 (v .made) → Does img Recover fuse z a
+      pub cut-never : {z : Image} {v : Power} {a : Answer} → u .cut ≡ false → Ran y u (joining (runs (clumpsOf y))) z v → a ≡ told v 0 → Does img Recover fuse z a
       unfolding J
       cut-never {v = v} f j g =
           recover-does {q = v} fuse

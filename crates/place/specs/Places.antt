@@ -12,7 +12,7 @@ use Rattle.rules.specs.Lists.{seek}
 use Rattle.rules.specs.Words.{Image, Mem, Store, mem, store, zeros, wordBytes, wordValues}
 use Rattle.rules.specs.Pages.{pageBytes, staticAt, headerAt, signatureLow, signatureHigh, signatureHighAt, totalAt, paddingAt, paddingWords, clumpsAt, unit, rightLength}
 use Rattle.rules.specs.Clumps.{Head, head, isFree, headerBytes, slots, stateAt, FREE, RESERVED, Tiles, walk}
-use Rattle.rules.specs.Answers.{granted, refuse, notPool, sizeZero, noRoom, answerAt}
+use Rattle.rules.specs.Answers.{granted, refuse, notPool, sizeZero, noRoom}
 use Rattle.rules.specs.Stores.{createStores, needOf, fits, emptying, leastRest, reserveStores}
 use Rattle.rules.specs.Requests.{Does, reserve, verdict}
 use Rattle.laws.specs.Searches.{and-both, seek-split}
@@ -21,7 +21,7 @@ use Rattle.walk.specs.Forms.{offsetOf}
 use Rattle.walk.specs.Scans.{offset-some, offset-inside}
 use Rattle.steps.specs.Acts.{Acts, acts-refused, acts-does, acts-ran}
 use Rattle.word.specs.declared.Power.{Power}
-use Rattle.word.specs.Runs.{full, Ran, ran-then, ran-as}
+use Rattle.word.specs.Runs.{full, Ran, told, ran-then, ran-as}
 
 -- create's list, below the padding and from it on
 abbrev pub pageStores : ℕ → List Store
@@ -89,7 +89,7 @@ module _ (img : Image) (h size fuse n k : ℕ) (p : Power) (fresh : p ≡ full f
       {x : Image} {q : Power} {r : Answer}
       → leastRest ≤ n - k
       → Ran img p (store (h + k) (n - k) ∷ store (stateAt (h + k)) FREE ∷ (emptying (slots h) ++ (store h k ∷ store (stateAt h) RESERVED ∷ []))) x q
-      → r ≡ answerAt (q .cut) (h + headerBytes) (q .made)
+      → r ≡ told q (h + headerBytes)
       → Acts img (granted (h + headerBytes) (reserveStores (needOf size) (head (mem img) h))) fuse x r
   split-acts l s e =
       rw (stores-split (needOf size) (head (mem img) h) (rw (← size-is, ← need-eq) l), ← size-is, ← need-eq)
@@ -99,7 +99,7 @@ module _ (img : Image) (h size fuse n k : ℕ) (p : Power) (fresh : p ≡ full f
       {x : Image} {q : Power} {r : Answer}
       → n - k < leastRest
       → Ran img p (emptying (slots h) ++ (store (stateAt h) RESERVED ∷ [])) x q
-      → r ≡ answerAt (q .cut) (h + headerBytes) (q .made)
+      → r ≡ told q (h + headerBytes)
       → Acts img (granted (h + headerBytes) (reserveStores (needOf size) (head (mem img) h))) fuse x r
   whole-acts l s e =
       rw (stores-whole (needOf size) (head (mem img) h) (rw (← size-is, ← need-eq) l)) (acts-ran fuse (h + headerBytes) (rw fresh at s) e)
@@ -116,7 +116,7 @@ pub create-done :
     → p ≡ full fuse
     → Ran img p (pageStores (length img)) x q
     → Ran x q (clumpStores (length x)) y s
-    → r ≡ answerAt (s .cut) 0 (s .made)
+    → r ≡ told s 0
     → Does img Create fuse y r
 unfolding verdict
 create-done {img} {s = s} b fuse e t f u v a =

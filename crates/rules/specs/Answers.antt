@@ -76,15 +76,19 @@ storesOf (granted p st) = st
 abbrev pub made : ℕ → Verdict → List Store
 made fuse v = take fuse (storesOf v)
 
--- "If the list is longer, the answer is 11; a fuse equal to its length is enough." The place is then 0.
-abbrev pub answerAt : Bool → ℕ → ℕ → Answer
-answerAt true p k = record { answer = cutShort; place = 0; fault = 0; stores = k }
-answerAt false p k = record { answer = done; place = p; fault = 0; stores = k }
+-- "Answer, place, fault number, count of stores.", with the stores that were made. "The count is the number made, also where a word
+-- keeps its value."
+abbrev pub answerBy : ℕ → ℕ → ℕ → List Store → Answer
+answerBy a p f st = record { answer = a; place = p; fault = f; stores = length st }
 
--- "Answer, place, fault number, count of stores." "The count is the number made, also where a word keeps its value."
+-- "If the list is longer, the answer is 11; a fuse equal to its length is enough." The place is then 0.
+abbrev pub answerAt : Bool → ℕ → List Store → Answer
+answerAt true p st = answerBy cutShort 0 0 st
+answerAt false p st = answerBy done p 0 st
+
 unfoldable pub answerOf : ℕ → Verdict → Answer
-answerOf fuse (refused a p f) = record { answer = a; place = p; fault = f; stores = 0 }
-answerOf fuse (granted p st) = answerAt (ltb fuse (length st)) p (length (take fuse st))
+answerOf fuse (refused a p f) = answerBy a p f []
+answerOf fuse (granted p st) = answerAt (ltb fuse (length st)) p (take fuse st)
 
 -- "Fault is 0 except with answer 2." The place of every other refusal is 0.
 abbrev pub refuse : ℕ → Verdict

@@ -6,6 +6,7 @@ use mathlib.Core.Path.{_≡_, refl}
 use mathlib.Core.Bool.{true}
 use mathlib.Core.List.{List, [], _∷_, _++_, map}
 use lib.ListN.{take}
+use Rattle.rules.specs.declared.Answer.{Answer}
 use Rattle.rules.specs.declared.Request.{Request}
 use Rattle.rules.specs.declared.Request.the-variants.{Create, Reserve, Activate, Free, Recover}
 use Rattle.rules.specs.Lists.{seek, those, any, all}
@@ -15,7 +16,7 @@ use Rattle.rules.specs.Clumps.{stateAt, headsFrom, walk}
 use Rattle.rules.specs.Sound.{sizeBad, stateBad, inPlace, gapped, listBad, faultOf, clumpFault, secondFault, isValid, allValid, targetFault, judge, touching, unsettled}
 use Rattle.rules.specs.Answers.{storesOf, answerOf, ifSound, ifSettled, bytesOf}
 use Rattle.rules.specs.Stores.{createStores, needOf, reserveStores, finishActivating, finishFreeing, activateStores, dropStores, freeStores, releasing, runs, joining, recoverStores}
-use Rattle.rules.specs.Requests.{reserve, enlist, withdraw, activate, free, verdict}
+use Rattle.rules.specs.Requests.{reserve, enlist, withdraw, activate, free, verdict, answerFor}
 
 -- a pool: its length and its memory
 abbrev pub Pool : Type 0
@@ -54,12 +55,16 @@ under fuse p q = (p .0, after (p .1) (take fuse (storesOf (verdict (p .0) (p .1)
 abbrev pub longest : ℕ
 longest = wordValues - 1
 
+-- what a request answers under a fuse
+abbrev pub answerIn : ℕ → Pool → Request → Answer
+answerIn fuse p q = answerFor (p .0) (p .1) q fuse
+
 -- answer, place and count of a request under a fuse, and the clumps after it
 abbrev pub Row : Type 0
 Row = ℕ × ℕ × ℕ × List (ℕ × ℕ)
 
 abbrev pub row : ℕ → Pool → Request → Row
-row fuse p q = let r = answerOf fuse (verdict (p .0) (p .1) q) in (r .answer, r .place, r .stores, shape (under fuse p q))
+row fuse p q = let r = answerIn fuse p q in (r .answer, r .place, r .stores, shape (under fuse p q))
 
 -- H: RESERVED 256 with the list (4096, 7), (4096, 9); 4096 holds 1
 abbrev pub caseH : Pool
@@ -69,7 +74,7 @@ caseH = poolOf ((256, 1) ∷ []) (store 16400 4096 ∷ store 16408 7 ∷ store 1
 abbrev pub cutH : ℕ → ℕ × ℕ × Row × ℕ
 cutH k =
     let x = under k caseH (Activate 16448) in (
-      answerOf k (verdict (caseH .0) (caseH .1) (Activate 16448)) .answer,
+      answerIn k caseH (Activate 16448) .answer,
       x .1 staticAt,
       row longest x Recover,
       under longest x Recover .1 staticAt,

@@ -92,6 +92,10 @@ Numbers (Free o) = o < wordValues
 Numbers Check = Unit {0}
 Numbers Recover = Unit {0}
 
+-- the answer of a request under a fuse
+abbrev pub answerFor : ℕ → Mem → Request → ℕ → Answer
+answerFor n m q fuse = answerOf fuse (verdict n m q)
+
 -- the same over an image
 abbrev pub verdictOn : Image → Request → Verdict
 verdictOn img q = verdict (length img) (mem img) q
@@ -108,7 +112,7 @@ finished img q = carry img (storesFor img q)
 
 -- the answer of a request under a fuse, and check's totals
 abbrev pub answerOn : Image → Request → ℕ → Answer
-answerOn img q fuse = answerOf fuse (verdictOn img q)
+answerOn img q fuse = answerFor (length img) (mem img) q fuse
 
 abbrev pub totalsOn : Image → Totals
 totalsOn img = totalsFor (verdictOn img Check) (walk (length img) (mem img))

@@ -13,21 +13,21 @@ use Rattle.rules.specs.Words.{store, put, mem}
 use Rattle.rules.specs.Pages.{signatureLow, signatureHigh, rightLength}
 use Rattle.rules.specs.Clumps.{walk}
 use Rattle.rules.specs.Sound.{isValid}
-use Rattle.rules.specs.Answers.{storesOf, answerOf, totalsFor}
+use Rattle.rules.specs.Answers.{storesOf, totalsFor}
 use Rattle.rules.specs.Requests.{verdict}
-use Rattle.rules.specs.Cases.{everyRule, Pool, poolOf, under, longest, caseH, fresh}
+use Rattle.rules.specs.Cases.{everyRule, Pool, poolOf, under, longest, answerIn, caseH, fresh}
 
 -- answer, place and fault of check
 abbrev pub checked : Pool → ℕ × ℕ × ℕ
-checked p = let r = answerOf longest (verdict (p .0) (p .1) Check) in (r .answer, r .place, r .fault)
+checked p = let r = answerIn longest p Check in (r .answer, r .place, r .fault)
 
 -- the answer of a request
 abbrev pub answered : Pool → Request → ℕ
-answered p q = answerOf longest (verdict (p .0) (p .1) q) .answer
+answered p q = answerIn longest p q .answer
 
 -- its place
 abbrev pub placeOf : Pool → Request → ℕ
-placeOf p q = answerOf longest (verdict (p .0) (p .1) q) .place
+placeOf p q = answerIn longest p q .place
 
 -- each request but create, on the clump that has its body at o
 abbrev pub requestsOn : ℕ → List Request
@@ -56,8 +56,7 @@ broken = poolOf ((128, 0) ∷ (128, 1) ∷ (128, 4) ∷ (128, 3) ∷ (128, 1) �
 -- answer, place and count of case C under a fuse
 abbrev pub fused : ℕ → ℕ × ℕ × ℕ
 fused k =
-    let p = poolOf ((1216, 0) ∷ []) [] in
-    let r = answerOf k (verdict (p .0) (p .1) (Reserve 1000)) in
+    let r = answerIn k (poolOf ((1216, 0) ∷ []) []) (Reserve 1000) in
     (r .answer, r .place, r .stores)
 
 abbrev pub Samples : Type 0
@@ -112,7 +111,7 @@ Samples =
     ≡ 16576 ∷ 16448 ∷ 16448 ∷ 0 ∷ [])
     × (map (placeOf (listing 3 (4096, 0, 0))) (Onfree 16448 4096 1 ∷ Withdraw 16448 ∷ Free 16448 ∷ []) ≡ 16448 ∷ 16448 ∷ 16448 ∷ [])
     -- first fit: of two clumps that fit, the lower; of three, the first that is large enough
-    × (map (λ size. answerOf longest (verdict 17152 (poolOf ((128, 0) ∷ (128, 3) ∷ (256, 0) ∷ (128, 3) ∷ (128, 0) ∷ []) [] .1) (Reserve size)) .place) (1 ∷ 65 ∷ 193 ∷ []) ≡ 16448 ∷ 16704 ∷ 0 ∷ [])
+    × (map (λ size. placeOf (poolOf ((128, 0) ∷ (128, 3) ∷ (256, 0) ∷ (128, 3) ∷ (128, 0) ∷ []) []) (Reserve size)) (1 ∷ 65 ∷ 193 ∷ []) ≡ 16448 ∷ 16704 ∷ 0 ∷ [])
     -- the lists of stores: of create its first, the ends of its parts, and three words inside each run of zeros
     × (map (λ i. getD (listOf fresh Create) i (0, 0)) (0 ∷ 1 ∷ 2 ∷ 3 ∷ 4 ∷ 512 ∷ 513 ∷ 514 ∷ 515 ∷ 516 ∷ 517 ∷ 518 ∷ 1023 ∷ 1024 ∷ 1025 ∷ 1026 ∷ 1027 ∷ 1028 ∷ 1031 ∷ 1032 ∷ 1033 ∷ [])
     ≡ (12288, 0)

@@ -13,12 +13,12 @@ use Rattle.rules.specs.Words.{Image, Store, mem, carry}
 use Rattle.rules.specs.Pages.{isPool}
 use Rattle.rules.specs.Clumps.{Head, walk}
 use Rattle.rules.specs.Sound.{Fault, judge, unsettled}
-use Rattle.rules.specs.Answers.{Verdict, refused, granted, refuse, noClump, test, testFault, notPool, notSettled, ifSound, ifSettled, storesOf, answerAt, answerOf}
+use Rattle.rules.specs.Answers.{Verdict, refused, granted, refuse, noClump, test, testFault, notPool, notSettled, ifSound, ifSettled, storesOf, answerOf}
 use Rattle.rules.specs.Requests.{verdictOn, Does, finder, found}
 use Rattle.rules.specs.Reading.{clumpsOf, Tiled}
 use Rattle.laws.specs.Pools.{answerIs, granted-none, done-settled, Sound, RightLength, pool-length, pool-tiles}
 use Rattle.word.specs.declared.Power.{Power}
-use Rattle.word.specs.Runs.{full, Ran, ran-answer}
+use Rattle.word.specs.Runs.{full, Ran, told, ran-answer}
 
 -- from the image before, under a fuse, the verdict v leads to the image x and the answer r
 pub record Acts (before : Image) (v : Verdict) (fuse : ℕ) (x : Image) (r : Answer) : Type 0 where
@@ -42,7 +42,7 @@ acts-refused img a p f fuse = record { answered = refl; stored = kept img fuse }
 
 pub acts-ran :
     {img x : Image} {q : Power} {st : List Store} {r : Answer} (fuse place : ℕ)
-    → Ran img (full fuse) st x q → r ≡ answerAt (q .cut) place (q .made) → Acts img (granted place st) fuse x r
+    → Ran img (full fuse) st x q → r ≡ told q place → Acts img (granted place st) fuse x r
 acts-ran fuse place s e = record { answered = e ∙ ran-answer fuse place s; stored = s .image }
 
 -- behind the tests 1 and 2

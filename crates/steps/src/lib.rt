@@ -6,9 +6,8 @@ ghost use Prim.Native.Nat.{_+_, _*_, _%_, _≤_, _<_};
 ghost use lib.ListN.{length};
 ghost use Rattle.rules.specs.Words.{wordBytes, wordValues, store, zeros};
 ghost use Rattle.rules.specs.Clumps.{headerBytes, slots, stateAt, ACTIVE, FREE};
-ghost use Rattle.rules.specs.Answers.{answerAt};
 ghost use Rattle.rules.specs.Stores.{emptying};
-ghost use Rattle.word.specs.Runs.{Ran};
+ghost use Rattle.word.specs.Runs.{Ran, told};
 ghost use Rattle.laws.specs.Pools.{answerIs};
 ghost use Rattle.page.specs.Forms.{InImage};
 ghost use Rattle.steps.specs.Lists.{assignsOf, emptiesOf};
@@ -28,25 +27,27 @@ pub fn refusal(answer: u64) -> Answer
     }
 }
 
-// The end of a request that stores: done with its place, or cut.
-pub fn finish(p: Power, place: u64) -> Answer
-    ensures { λ r. ⌜ r ≡ answerAt (p .cut) place (p .made) ⌝ }
+// The answer of that number and place, with what the power tells of the stores.
+fn ended(p: Power, number: u64, place: u64) -> Answer
+    ensures { λ r. ⌜ r ≡ record { answer = number; place = place; fault = 0; stores = p .made } ⌝ }
 {
-    let cut = p.cut;
-    if cut {
-        return Answer {
-            answer: Answer::CUT,
-            place: 0,
-            fault: 0,
-            stores: p.made,
-        };
-    }
     Answer {
-        answer: Answer::DONE,
+        answer: number,
         place,
         fault: 0,
         stores: p.made,
     }
+}
+
+// The end of a request that stores: done with its place, or cut.
+pub fn finish(p: Power, place: u64) -> Answer
+    ensures { λ r. ⌜ r ≡ told p place ⌝ }
+{
+    let cut = p.cut;
+    if cut {
+        return ended(p, Answer::CUT, 0);
+    }
+    ended(p, Answer::DONE, place)
 }
 
 // 0 to each of `count` words from `from` on, upward.

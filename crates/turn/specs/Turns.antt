@@ -14,7 +14,7 @@ use Rattle.rules.specs.Words.{Image, Mem, Store, mem, store, wordBytes, wordVal
 use Rattle.rules.specs.Pages.{clumpsAt}
 use Rattle.rules.specs.Clumps.{Head, head, endOf, isFree, isWaiting, hasState, stateAt, headerBytes, RESERVED, ACTIVATING, ACTIVE, FREEING, FREE, Tiles, walk}
 use Rattle.rules.specs.Sound.{allValid}
-use Rattle.rules.specs.Answers.{granted, refuse, wrongState, badTarget, answerAt}
+use Rattle.rules.specs.Answers.{granted, refuse, wrongState, badTarget}
 use Rattle.rules.specs.Stores.{finishActivating, finishFreeing, activateStores, dropStores, joinBefore, joinBoth, freeStores}
 use Rattle.rules.specs.Requests.{activate, mayDrop, free}
 use Rattle.rules.specs.Reading.{clumpsOf, Tiled}
@@ -25,7 +25,7 @@ use Rattle.walk.specs.Forms.{offsetOf, listValid}
 use Rattle.walk.specs.Scans.{offset-none, offset-some, offset-inside, list-valid}
 use Rattle.rules.specs.declared.Answer.{Answer}
 use Rattle.word.specs.declared.Power.{Power}
-use Rattle.word.specs.Runs.{full, Ran, ran-then, ran-as}
+use Rattle.word.specs.Runs.{full, Ran, told, ran-then, ran-as}
 use Rattle.steps.specs.Acts.{Acts, acts-ran}
 use Rattle.steps.specs.Lists.{assignsOf, emptiesOf, assigns-are, empties-are}
 
@@ -196,7 +196,7 @@ module _ (img : Image) (h state nbytes : ℕ) (l : List (List ℕ)) (t : Turned 
       → Ran img p (dropOf h state l) x q
       → Ran x q (storeIf n h (nbytes + n)) y r
       → Ran y r (storeIf k below (k + (nbytes + n))) z u
-      → w ≡ answerAt (u .cut) offset (u .made)
+      → w ≡ told u offset
       → Acts img (granted offset (freeStores (mem img) (clumpsOf img) (head (mem img) h))) fuse z w
   release-acts {u = u} n k offset fuse e f g a b c d =
       acts-ran {q = u} fuse offset (ran-as _ _ (sym free-stores) (ran-then (rw g at a) (ran-then (rw e at b) (rw (f, e) at c)))) d

@@ -2,7 +2,7 @@
 -- `ran-then`, so that a request's stores are one chain of calls. Assumes nothing.
 use Prim.Native.Nat.{ℕ, zero, suc, _+_, _-_, _<_, min}
 use mathlib.Core.Path.{_≡_, refl, sym, ap, _∙_}
-use mathlib.Core.Bool.{Bool, true, false}
+use mathlib.Core.Bool.{Bool, true, false, cond}
 use mathlib.Core.List.{List, [], _∷_, _++_}
 use native.Mathlib.Omega.{arith}
 use native.Mathlib.Nat.{suc-sub-suc, zero-sub, sub-zero, add-zero, zero-add, min-zero, min-eq-right, not-suc-le-zero}
@@ -12,7 +12,8 @@ use lib.ListN.{length, take, length-append, length-take}
 use lib.Seq.{take-nil, take-all, take-append-le}
 use borrow.Author.Tests.{lt-ltb, le-ltb, ltb-true, ltb-false}
 use Rattle.rules.specs.Words.{Image, Mem, Store, Aligned, put, mem, upd, after, carry}
-use Rattle.rules.specs.Answers.{granted, answerAt, answerOf}
+use Rattle.rules.specs.declared.Answer.{Answer}
+use Rattle.rules.specs.Answers.{done, cutShort, granted, answerAt, answerOf}
 use Rattle.word.specs.Tests.{ltb-same}
 use Rattle.word.specs.Memory.{mem-put, length-put}
 use Rattle.word.specs.declared.Power.{Power}
@@ -170,9 +171,17 @@ ran-cut {img} {x} {q} fuse st ts r e =
       sum = r .sum;
     }
 
--- what the power tells after all of a request's stores is the answer that the list and the fuse give
+-- what the power tells at the end of a request that stores: done with its place, or cut
+abbrev pub told : Power → ℕ → Answer
+told q place = record { answer = cond (q .cut) cutShort done; place = cond (q .cut) 0 place; fault = 0; stores = q .made }
+
+-- after all of a request's stores that is the answer that the list and the fuse give
 pub ran-answer :
     {img x : Image} {q : Power} {st : List Store} (fuse place : ℕ)
-    → Ran img (full fuse) st x q → answerAt (q .cut) place (q .made) ≡ answerOf fuse (granted place st)
+    → Ran img (full fuse) st x q → told q place ≡ answerOf fuse (granted place st)
 unfolding answerOf spent cutBy
-ran-answer {st = st} fuse place r = rw (r .power, zero-add, length-take fuse st)
+ran-answer {st = st} fuse place r = rw (r .power, zero-add) (go (ltb fuse (length st)))
+  where
+    go : (b : Bool) → record { answer = cond b cutShort done; place = cond b 0 place; fault = 0; stores = min fuse (length st) } ≡ answerAt b place (take fuse st)
+    go true = rw (length-take fuse st)
+    go false = rw (length-take fuse st)

@@ -14,11 +14,14 @@ returns c = survey-refused _ _ _ (c .before .before .sound .ensures) (c .if1 .ta
 is-unsettled-requires : tie.Need-is-unsettled-requires
 is-unsettled-requires c κs = survey-tiles _ _ _ (c .before .before .sound .ensures) (c .if1 .left)
 
+unstored-requires : tie.Need-unstored-requires
+unstored-requires c κs = search needs
+
 returns-2 : tie.Need-returns-2
-returns-2 c = survey-unsettled _ _ _ (c .before .before .before .before .sound .ensures) (c .before .before .if1 .left) (sym (c .before .is-unsettled .ensures) ∙ c .if2 .taken)
+returns-2 c = rw (c .unstored .ensures) (survey-unsettled _ _ _ (c .before .before .before .before .before .sound .ensures) (c .before .before .before .if1 .left) (sym (c .before .before .is-unsettled .ensures) ∙ c .before .if2 .taken))
 
 returns-3 : tie.Need-returns-3
 returns-3 c = survey-settled _ _ _ (c .before .before .before .before .sound .ensures) (c .before .before .if1 .left) (sym (c .before .is-unsettled .ensures) ∙ c .if2 .left)
 
 pub survey-spec : {M : Type 1} → statement M
-survey-spec = tie.close (tie.spec sound-requires returns is-unsettled-requires returns-2 returns-3)
+survey-spec = tie.close (tie.spec sound-requires returns is-unsettled-requires unstored-requires returns-2 returns-3)

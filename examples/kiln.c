@@ -2,7 +2,8 @@
  *
  *     kiln FILE
  *
- * FILE is the memory: 32,768 bytes, mapped, so that what is stored stays when the process ends. Started on no file, it makes the pool,
+ * FILE is the memory: 32,768 bytes, mapped, so that what is stored stays when the process ends; after each request that is done just the
+ * bytes that it stored are flushed, as its answer tells. Started on no file, it makes the pool,
  * gives one command, and is cut off while the second goes live. Started again, it recovers, frees the first command, and is cut off in
  * that. Started a third time, it recovers, and ends. A cut is made by a fuse: the library stores so many words and no more, and the process
  * then kills itself, as a power loss would.
@@ -44,12 +45,19 @@ static uint64_t word(uint64_t offset) {
     return w;
 }
 
+/* Flushes what a request stored, and nothing else: the pages that have bytes from flush_from up to flush_to. */
+static void flush(struct syrinthoa_answer a) {
+    uint64_t start = a.flush_from - a.flush_from % (uint64_t)sysconf(_SC_PAGESIZE);
+    if (a.stores && msync(image + start, a.flush_to - start, MS_SYNC) != 0) refuse(strerror(errno));
+}
+
 /* Prints what a request answered, and gives its place. One that was cut ends the process, as if the power had gone. */
 static uint64_t answered(struct syrinthoa_answer a) {
     printf("%" PRIu64 " %" PRIu64 " %" PRIu64 "\n", a.answer, a.place, a.stores);
     fflush(stdout);
     if (a.answer == SYRINTHOA_CUT) raise(SIGKILL);
     if (a.answer != SYRINTHOA_DONE) exit(1);
+    flush(a);
     return a.place;
 }
 
@@ -70,7 +78,9 @@ static uint64_t prepare(uint64_t size, uint64_t count, uint64_t before) {
 
 /* A new pool: a command that goes live, and one that is cut off after 3 words. */
 static void first_day(void) {
-    if (syrinthoa_create(image, LENGTH, SYRINTHOA_LASTING).answer != SYRINTHOA_DONE) refuse("no pool was made");
+    struct syrinthoa_answer made = syrinthoa_create(image, LENGTH, SYRINTHOA_LASTING);
+    if (made.answer != SYRINTHOA_DONE) refuse("no pool was made");
+    flush(made);
     uint64_t first = prepare(320, 1, 0);
     answered(syrinthoa_activate(image, LENGTH, first, SYRINTHOA_LASTING));
     walk();

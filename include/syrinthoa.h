@@ -10,7 +10,7 @@
  * Each request is a list of word stores. The library makes them one by one: each word by one store of 8 bytes, once, in the list's order,
  * and nothing else into the image. Where the image begins at an address divisible by 8, as mapped memory does, these are aligned words, and
  * the words that a power loss leaves are those of some beginning of the list, if the machine stores an aligned word whole or not at all and
- * in the order asked. What lies behind the processor's store, as its caches, is the caller's to flush.
+ * in the order asked. What lies behind the processor's store, as its caches, is the caller's to flush; each answer says which bytes.
  *
  * The functions keep nothing between calls, take no memory, and start no thread. The one thing that they call is sysconf(-1), after each
  * word, so that the compiler keeps the words apart (docs/HEARD.md); like any call of the C library it may set errno.
@@ -36,6 +36,11 @@ struct syrinthoa_answer {
                         header offset of the clump at fault. Else 0 */
     uint64_t fault;  /* not sound: one of SYRINTHOA_FAULT_..; else 0 */
     uint64_t stores; /* how many words were stored, also where a word kept its value */
+    /* What to flush: the lowest offset stored to, and the offset just past the highest word stored to; both 0 if nothing was stored. Every
+       byte before flush_from or from flush_to on is what it was. Cut: of the words that were stored, and no other. Both are divisible by 8,
+       and flush_to is at most the length. */
+    uint64_t flush_from;
+    uint64_t flush_to;
 };
 
 /* Answers, in the order of the tests: the first that holds is given. 1 to 10 are refusals, and store nothing. */

@@ -7,8 +7,8 @@
  *     BUILD LENGTH FILL K OFFSET1 WORD1 .. OFFSETK WORDK REQUEST A B C FUSE
  *
  * BUILD 0 is the library as C links it, 1 the one whose fuse is a constant (crates/lasting; FUSE is read and not used). An image of length
- * 0 is lent as NULL. The mark of heard.h is up just while the library runs. Printed is a line of answer, place, fault and stores, and for
- * check the five totals behind them.
+ * 0 is lent as NULL. The mark of heard.h is up just while the library runs. Printed is a line of answer, place, fault, stores and the two
+ * ends of what to flush, and for check the five totals behind them.
  *
  * BUILD 2 calls no library: it tries the recorder, with stores of several widths for REQUEST 0, and for 1 with a change that no instruction
  * of the program makes. */
@@ -133,6 +133,7 @@ static void print(struct syrinthoa_checked given, int with_totals) {
     answer a = given.answer;
     struct syrinthoa_totals t = given.totals;
     printf("%" PRIu64 " %" PRIu64 " %" PRIu64 " %" PRIu64, a.answer, a.place, a.fault, a.stores);
+    printf(" %" PRIu64 " %" PRIu64, a.flush_from, a.flush_to);
     if (with_totals)
         printf(" %" PRIu64 " %" PRIu64 " %" PRIu64 " %" PRIu64 " %" PRIu64, t.free, t.reserved, t.activating, t.active, t.freeing);
     putchar('\n');

@@ -5,9 +5,10 @@
 EMULATOR is a qemu-x86_64 that takes plugins, RECORDER the plugin (recorder.c)
 and CALLER the program that makes the calls (caller.c).  For each call the model
 says which words are stored, in which order, and what is answered; the stores
-that were recorded must be just these, each of 8 bytes at its offset.  Printed is
-a table, and what differs; exit status 1 if something does.  The recorder itself
-is tried first; exit status 3 if it is not to be trusted.
+that were recorded must be just these, each of 8 bytes at its offset; and what the
+answer says to flush must be just what the stores reach.  Printed is a table, and
+what differs; exit status 1 if something does.  The recorder itself is tried first;
+exit status 3 if it is not to be trusted.
 """
 
 import subprocess
@@ -132,6 +133,14 @@ def in_words(stores):
             for one in stores for at in range(0, len(one.data), 8)]
 
 
+# What is to be flushed of the stores, as they were heard: from the lowest offset
+# to the one just past the highest byte, and 0 and 0 where none was.
+def reached(stores):
+    if not stores:
+        return [0, 0]
+    return [min(one.offset for one in stores), max(one.offset + len(one.data) for one in stores)]
+
+
 def is_part(few, many):
     """Whether the first list is left of the second if some of it is dropped."""
     rest = iter(many)
@@ -168,6 +177,7 @@ class Report:
         self.widths = Counter()
         self.examples = {}
         self.answers = []
+        self.flushes = []
 
     def take(self, number, call, wanted, heard, answered):
         where = BUILDS[call.build], call.case.name
@@ -182,13 +192,15 @@ class Report:
             self.examples.setdefault((where, found), (number, call, wanted, heard))
         if answered != [*wanted.answer, *wanted.totals]:
             self.answers.append((number, call, wanted, answered))
+        if answered[4:6] != reached(heard.stores):
+            self.flushes.append((number, call, heard, answered))
 
     def places(self):
         return [(build, name) for build in BUILDS for name in REQUEST_NAMES
                 if any(self.calls[(build, name), kind] for kind in KINDS)]
 
     def is_exact(self):
-        return not self.examples and not self.answers
+        return not self.examples and not self.answers and not self.flushes
 
 
 KINDS = ("granted", "cut", "refused")
@@ -216,6 +228,10 @@ def print_report(report):
         print("call %d, %s, %s: answered %s, the model %s" % (
             number, BUILDS[call.build], call_line(call).strip()[:300], answered,
             [*wanted.answer, *wanted.totals]))
+    for number, call, heard, answered in report.flushes[:5]:
+        print("call %d, %s, %s: says to flush %s, its stores reach %s" % (
+            number, BUILDS[call.build], call_line(call).strip()[:300], answered[4:6],
+            reached(heard.stores)))
 
 
 # The first place where the two lists part, and a few stores from there on.
@@ -270,8 +286,9 @@ def main(arguments):
     report = compare(calls, heard, answers)
     print_report(report)
     exact = sum(count for (_, kind), count in report.verdicts.items() if kind == "exact")
-    print("heard: %d calls, %d stores; %d calls exact, %d not; %d wrong answers" % (
-        len(calls), sum(report.stores.values()), exact, len(calls) - exact, len(report.answers)))
+    print("heard: %d calls, %d stores; %d calls exact, %d not; %d wrong answers, %d wrong flushes" % (
+        len(calls), sum(report.stores.values()), exact, len(calls) - exact, len(report.answers),
+        len(report.flushes)))
     return 0 if report.is_exact() else 1
 
 

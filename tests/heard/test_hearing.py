@@ -5,7 +5,7 @@ from collections import Counter
 
 import hearing
 from build import MIXED, MIXED_ACTIVE, case
-from hearing import BUILDS, Call, Heard, Store, asked, calls_heard, compare, verdict
+from hearing import BUILDS, Call, Heard, Store, asked, calls_heard, compare, reached, verdict
 
 
 def stores(*pairs):
@@ -79,10 +79,23 @@ class TestCompare(unittest.TestCase):
         self.assertEqual(report.verdicts[(BUILDS[0], "free"), "lost"], 1)
 
     def test_a_wrong_answer(self):
-        for at in range(4):
+        self.assertEqual(len(self.answered), 6)
+        for at in range(6):
             self.answered[at] += 1
-            self.assertFalse(compare([self.call], [Heard(self.wanted.stores, True)], [self.answered]).is_exact())
+            report = compare([self.call], [Heard(self.wanted.stores, True)], [self.answered])
+            self.assertEqual((len(report.answers), len(report.flushes)), (1, at // 4))
+            self.assertFalse(report.is_exact())
             self.answered[at] -= 1
+
+    # What is said to be flushed is held to what was heard, whatever the model says.
+    def test_what_the_stores_reach(self):
+        self.assertEqual(reached([]), [0, 0])
+        self.assertEqual(reached(LIST), [8, 32])
+        self.assertEqual(reached([Store(16, bytes(16)), Store(-8, bytes(4))]), [-8, 32])
+        self.assertEqual(self.answered[4:], [4096, 16456])
+        for heard in (self.wanted.stores[:2], self.wanted.stores + stores((16456, 0))):
+            report = compare([self.call], [Heard(heard, True)], [self.answered])
+            self.assertEqual((len(report.answers), len(report.flushes)), (0, 1))
 
     def test_a_call_that_was_not_made(self):
         with self.assertRaises(AssertionError):

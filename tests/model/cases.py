@@ -939,6 +939,65 @@ def histories():
             image = after(image, name, *numbers, fuse=fuse)
 
 
+# ---------------------------------------------------------------------------
+# Bytes to flush (W1 of document 02)
+# ---------------------------------------------------------------------------
+
+# Create where its words stand already, cut where its parts meet: over zeros all
+# but four stores keep their words, and over the pool that it makes all but the
+# first and the last.  They count, so the bytes to flush are as over any image.
+def create_over_the_same_words():
+    for fuse in (1, 2, 512, 513, 514, 1024, 1025, 1026, 1032):
+        yield case(bytearray(16512), "create", fuse=fuse)
+    for fuse in (1, 2, 513, 1024, 1032, 1033):
+        yield case(fresh(16512), "create", fuse=fuse)
+
+
+# Reserve with a split where the rest's header and the empty list stand already;
+# the same without a split.
+def kept_reserve_choices():
+    yield with_words(pool_of(clump(512, FREE)), {16512: 384, 16520: FREE}), "reserve", (64,)
+    yield pool_of(clump(128, ACTIVE), clump(192, FREE), clump(128, ACTIVE)), "reserve", (100,)
+
+
+# Onactive into the second entry and onfree into the third, each with the value
+# that the empty entry has kept.
+def kept_list_choices():
+    reserved = pool_of(clump(128, RESERVED, (4096, 1), (0, 999)))
+    active = pool_of(clump(128, ACTIVE, (4096, 1), (4104, 2), (0, 999)))
+    yield reserved, "onactive", (16448, 8184, 999)
+    yield active, "onfree", (16448, 16504, 999)
+
+
+# Assignments whose targets hold the values already, in the static area, a lower
+# body and a higher one: activated, freed between FREE neighbours, recovered.
+def kept_assignment_choices():
+    entries = [(16448, 7), (17216, 8), (4096, 9)]
+    words = {16448: 7, 17216: 8, 4096: 9}
+    yield with_words(unfinished(RESERVED, *entries), words), "activate", (16704,)
+    yield with_words(unfinished(ACTIVE, *entries), words), "free", (16704,)
+    yield with_words(unfinished(ACTIVATING, *entries), words), "recover", ()
+
+
+# Each cut of these requests, some of whose stores keep their words: the changed
+# words alone would give fewer bytes to flush.
+def kept_words():
+    for choices in (kept_reserve_choices, kept_list_choices, kept_assignment_choices):
+        for image, name, numbers in choices():
+            for fuse in range(stores_of(image, name, numbers) + 1):
+                yield case(image, name, *numbers, fuse=fuse)
+
+
+# Each cut of an activation that assigns to the last word of the largest image
+# here and to both ends of the static area: the bytes to flush end with the image.
+def last_word_assigned():
+    image = pool_of(clump(128, FREE),
+                    clump(128, RESERVED, (8184, 7), (65528, 8), (4096, 9)),
+                    clump(65536 - 16640, ACTIVE))
+    for fuse in range(stores_of(image, "activate", (16576,)) + 1):
+        yield case(image, "activate", 16576, fuse=fuse)
+
+
 FAMILIES = (
     lengths, no_pool_for_every_request, header_bits, total_sizes, padding,
     no_pool_before_faults, bad_sizes, last_64_bytes, bad_states, entry_patterns,
@@ -949,7 +1008,8 @@ FAMILIES = (
     targets_gone, case_j, every_cut, wide_fuses, fuses_of_refusals, create_cuts,
     create_over_a_pool, after_create_cuts, recoveries, recoveries_cut_again,
     longer_and_longer_recoveries, cut_images_asked, dust, garbage, garbage_clumps,
-    nearly_right_pools, sound_pools, damage, histories)
+    nearly_right_pools, sound_pools, damage, histories, create_over_the_same_words,
+    kept_words, last_word_assigned)
 
 
 def all_cases():

@@ -69,7 +69,7 @@ def case_line(one):
     return " ".join(map(str, line)) + "\n"
 
 
-# N ANSWER PLACE FAULT STORES FREE RESERVED ACTIVATING ACTIVE FREEING SUM
+# N ANSWER PLACE FAULT STORES FROM TO FREE RESERVED ACTIVATING ACTIVE FREEING SUM
 def outcome_line(number, one):
     image = bytearray(one.image)
     given = pool.ask(image, one.name, one.numbers, one.fuse)

@@ -1,10 +1,12 @@
-"""A model of the pool, written from document 01 and in its order.
+"""A model of the pool, written from document 01 and in its order, and from
+request W1 of document 02.
 
 An image is a bytearray.  A request takes the image, its numbers and a fuse,
 changes the image as far as the fuse lasts, and returns
-(answer, place, fault, stores).  The comment above a function quotes the rule
-that the function follows.  Nothing here is quick or clever: it is meant to be
-held against the paper, line by line.
+(answer, place, fault, stores, flush_from, flush_to).  The comment above a
+function quotes the rule that the function follows: document 01's, or W1's where
+it says so.  Nothing here is quick or clever: it is meant to be held against the
+papers, line by line.
 """
 
 from collections import namedtuple
@@ -12,7 +14,9 @@ from functools import wraps
 
 LARGEST = 2**64 - 1
 
-Answer = namedtuple("Answer", "answer place fault stores")
+# "Answer, place, fault number, count of stores."  W1: "Every answer should also
+# carry the lowest offset stored to and the offset just past the highest."
+Answer = namedtuple("Answer", "answer place fault stores flush_from flush_to")
 Entry = namedtuple("Entry", "offset target value")
 Clump = namedtuple("Clump", "offset nbytes state entries")
 
@@ -228,8 +232,9 @@ class Refused(Exception):
 
     def __init__(self, answer, place=0, fault=0):
         super().__init__(answer, place, fault)
-        # "Answers 1 to 10 make no store."
-        self.given = Answer(answer, place, fault, 0)
+        # "Answers 1 to 10 make no store."  W1: "Both are 0 when nothing was
+        # stored."; "This joins the shared answer, refusals included".
+        self.given = Answer(answer, place, fault, 0, 0, 0)
 
 
 # "Tests go by rising number; each answer is given exactly when its test is the
@@ -316,10 +321,11 @@ def totals_of(clumps):
                  for state in range(5))
 
 
-# "Check and recover never give 3."  "With a refusal all five are 0."
+# "Check and recover never give 3."  "With a refusal all five are 0."  W1: "Both
+# are 0 when nothing was stored."
 def check(image):
     try:
-        return Answer(0, 0, 0, 0), totals_of(sound_clumps(image))
+        return Answer(0, 0, 0, 0, 0, 0), totals_of(sound_clumps(image))
     except Refused as refused:
         return refused.given, (0, 0, 0, 0, 0)
 
@@ -328,16 +334,28 @@ def check(image):
 # Stores and the fuse
 # ---------------------------------------------------------------------------
 
+# W1: "the lowest offset stored to and the offset just past the highest.  Both are
+# 0 when nothing was stored.  A store that keeps a word's value still counts."
+def bytes_to_flush(made):
+    if not made:
+        return 0, 0
+    offsets = [offset for offset, _ in made]
+    # "A finished create gives 4096 and 16448": its highest word is at 16440, so
+    # "just past" means past that word's 8 bytes.
+    return min(offsets), max(offsets) + 8
+
+
 # "A request is a definite list of word stores.  It carries a fuse, the number
 # of stores that the power lasts for, and makes the first so many.  If the list
-# is longer, the answer is 11; a fuse equal to its length is enough."
+# is longer, the answer is 11; a fuse equal to its length is enough."  W1: "A cut
+# answer covers only the stores made."
 def carry_out(image, stores, place, fuse):
     made = stores[:fuse]
     for offset, value in made:
         put_word(image, offset, value)
     if len(stores) > fuse:
-        return Answer(11, 0, 0, len(made))
-    return Answer(0, place, 0, len(made))
+        return Answer(11, 0, 0, len(made), *bytes_to_flush(made))
+    return Answer(0, place, 0, len(made), *bytes_to_flush(made))
 
 
 # "Word 8 is the state"

@@ -1,15 +1,19 @@
-"""Holds the model against document 01: its numbers, worked by hand, and its rules.
+"""Holds the model against document 01 and request W1 of document 02: their numbers,
+worked by hand, and their rules.
 
     python3 -m unittest discover -s tests/model
 """
 
 import unittest
+from unittest import mock
 
 import cases
 import generate
 import pool
 import program
-from build import Dice, after, clump, dusty, filled, fresh, pool_of, with_words
+from build import (
+    Dice, MIXED, MIXED_ACTIVE, MIXED_BARE_ACTIVE, MIXED_FREE, MIXED_RESERVED, after, case,
+    clump, dusty, filled, fresh, pool_of, with_words)
 from pool import FREE, RESERVED, ACTIVATING, ACTIVE, FREEING, LARGEST
 from scripts import SCRIPTS
 
@@ -24,6 +28,20 @@ def changed_words(one, other):
     return [at for at in range(0, len(one), 8) if one[at:at + 8] != other[at:at + 8]]
 
 
+# The answer to a case, and the offsets stored to on the way, each as it is stored.
+def heard(image, one):
+    offsets = []
+    put_word = pool.put_word
+
+    def put_and_note(image, offset, value):
+        put_word(image, offset, value)
+        offsets.append(offset)
+
+    with mock.patch.object(pool, "put_word", put_and_note):
+        given = pool.ask(image, one.name, one.numbers, one.fuse)
+    return given, offsets
+
+
 # ---------------------------------------------------------------------------
 # "Numbers to try"
 # ---------------------------------------------------------------------------
@@ -34,46 +52,49 @@ class NumbersToTry(unittest.TestCase):
     def test_a(self):
         for size, need in ((1, 128), (64, 128), (65, 192), (1000, 1088)):
             image = fresh(32768)
-            self.assertEqual(pool.reserve(image, size), (0, 16448, 0, 7))
+            # The highest word is the state of the rest.
+            self.assertEqual(pool.reserve(image, size),
+                             (0, 16448, 0, 7, 16384, 16384 + need + 16))
             self.assertEqual(tiles(image), [(need, RESERVED), (16384 - need, FREE)])
 
     # B: 256, RESERVED 1088, FREE 960, 256.
     def test_b(self):
         image = pool_of(clump(256, ACTIVE), clump(2048, FREE), clump(256, ACTIVE))
-        self.assertEqual(pool.reserve(image, 1000), (0, 16704, 0, 7))
+        self.assertEqual(pool.reserve(image, 1000), (0, 16704, 0, 7, 16640, 17744))
         self.assertEqual(tiles(image), [(256, ACTIVE), (1088, RESERVED), (960, FREE),
                                         (256, ACTIVE)])
 
     # C: of 1216, split to 1088 and 128.
     def test_c(self):
         image = pool_of(clump(128, ACTIVE), clump(1216, FREE))
-        self.assertEqual(pool.reserve(image, 1000), (0, 16576, 0, 7))
+        self.assertEqual(pool.reserve(image, 1000), (0, 16576, 0, 7, 16512, 17616))
         self.assertEqual(tiles(image), [(128, ACTIVE), (1088, RESERVED), (128, FREE)])
 
     # D: of 1152, all taken.
     def test_d(self):
         image = pool_of(clump(128, ACTIVE), clump(1152, FREE))
-        self.assertEqual(pool.reserve(image, 1000), (0, 16576, 0, 4))
+        self.assertEqual(pool.reserve(image, 1000), (0, 16576, 0, 4, 16520, 16568))
         self.assertEqual(tiles(image), [(128, ACTIVE), (1152, RESERVED)])
 
     # E: of 1088, taken.
     def test_e(self):
         image = pool_of(clump(128, ACTIVE), clump(1088, FREE))
-        self.assertEqual(pool.reserve(image, 1000), (0, 16576, 0, 4))
+        self.assertEqual(pool.reserve(image, 1000), (0, 16576, 0, 4, 16520, 16568))
         self.assertEqual(tiles(image), [(128, ACTIVE), (1088, RESERVED)])
 
     # F: of 1024, answer 5.
     def test_f(self):
         image = pool_of(clump(128, ACTIVE), clump(1024, FREE))
         before = bytes(image)
-        self.assertEqual(pool.reserve(image, 1000), (5, 0, 0, 0))
+        self.assertEqual(pool.reserve(image, 1000), (5, 0, 0, 0, 0, 0))
         self.assertEqual(image, before)
 
     # G: FREE 16384: size 16320 fits, 16321 doesn't; 18446744073709551615 gets 5.
     def test_g(self):
-        self.assertEqual(pool.reserve(fresh(32768), 16320), (0, 16448, 0, 4))
-        self.assertEqual(pool.reserve(fresh(32768), 16321), (5, 0, 0, 0))
-        self.assertEqual(pool.reserve(fresh(32768), 18446744073709551615), (5, 0, 0, 0))
+        self.assertEqual(pool.reserve(fresh(32768), 16320), (0, 16448, 0, 4, 16392, 16440))
+        self.assertEqual(pool.reserve(fresh(32768), 16321), (5, 0, 0, 0, 0, 0))
+        self.assertEqual(pool.reserve(fresh(32768), 18446744073709551615),
+                         (5, 0, 0, 0, 0, 0))
 
     def pool_of_h(self):
         image = pool_of(clump(128, RESERVED, (4096, 7), (4096, 9)), clump(128, FREE))
@@ -82,7 +103,7 @@ class NumbersToTry(unittest.TestCase):
     # H: activate makes 6 stores.
     def test_h_whole(self):
         image = self.pool_of_h()
-        self.assertEqual(pool.activate(image, 16448), (0, 16448, 0, 6))
+        self.assertEqual(pool.activate(image, 16448), (0, 16448, 0, 6, 4096, 16424))
         self.assertEqual(pool.word(image, 4096), 9)
         self.assertEqual(image[16400:16408] + image[16416:16424], bytes(16))
         self.assertEqual(tiles(image), [(128, ACTIVE), (128, FREE)])
@@ -90,41 +111,43 @@ class NumbersToTry(unittest.TestCase):
     # H: cut after 2, 4096 holds 7; after recovery 9.
     def test_h_cut_after_2(self):
         image = self.pool_of_h()
-        self.assertEqual(pool.activate(image, 16448, fuse=2), (11, 0, 0, 2))
+        self.assertEqual(pool.activate(image, 16448, fuse=2), (11, 0, 0, 2, 4096, 16400))
         self.assertEqual(pool.word(image, 4096), 7)
         # Two assignments, two targets emptied, one state.
-        self.assertEqual(pool.recover(image), (0, 0, 0, 5))
+        self.assertEqual(pool.recover(image), (0, 0, 0, 5, 4096, 16424))
         self.assertEqual(pool.word(image, 4096), 9)
 
     # H: cut after 4, 9 stays.
     def test_h_cut_after_4(self):
         image = self.pool_of_h()
-        self.assertEqual(pool.activate(image, 16448, fuse=4), (11, 0, 0, 4))
+        self.assertEqual(pool.activate(image, 16448, fuse=4), (11, 0, 0, 4, 4096, 16408))
         self.assertEqual(pool.word(image, 4096), 9)
         # The second entry is left: assigned, emptied, state.
-        self.assertEqual(pool.recover(image), (0, 0, 0, 3))
+        self.assertEqual(pool.recover(image), (0, 0, 0, 3, 4096, 16424))
         self.assertEqual(pool.word(image, 4096), 9)
         self.assertEqual(tiles(image), [(128, ACTIVE), (128, FREE)])
 
     # H: cut after 0, the clump becomes FREE and 4096 keeps its old word.
     def test_h_cut_after_0(self):
         image = self.pool_of_h()
-        self.assertEqual(pool.activate(image, 16448, fuse=0), (11, 0, 0, 0))
-        self.assertEqual(pool.recover(image), (0, 0, 0, 2))
+        self.assertEqual(pool.activate(image, 16448, fuse=0), (11, 0, 0, 0, 0, 0))
+        # The state, then the nbytes of both.
+        self.assertEqual(pool.recover(image), (0, 0, 0, 2, 16384, 16400))
         self.assertEqual(pool.word(image, 4096), 55)
         self.assertEqual(tiles(image), [(256, FREE)])
 
     # I: free makes 4 stores and leaves FREE 768.
     def test_i(self):
         image = pool_of(clump(256, FREE), clump(256, ACTIVE), clump(256, FREE))
-        self.assertEqual(pool.free(image, 16704), (0, 16704, 0, 4))
+        # The states at 16648, the nbytes at 16640 and at 16384.
+        self.assertEqual(pool.free(image, 16704), (0, 16704, 0, 4, 16384, 16656))
         self.assertEqual(tiles(image), [(768, FREE)])
 
     # J: activate 16448 then answers 10, place 0, 0 stores.
     def test_j(self):
         image = pool_of(clump(128, RESERVED, (16576, 5)), clump(128, ACTIVE))
-        self.assertEqual(pool.free(image, 16576), (0, 16576, 0, 2))
-        self.assertEqual(pool.activate(image, 16448), (10, 0, 0, 0))
+        self.assertEqual(pool.free(image, 16576), (0, 16576, 0, 2, 16520, 16528))
+        self.assertEqual(pool.activate(image, 16448), (10, 0, 0, 0, 0, 0))
 
 
 # ---------------------------------------------------------------------------
@@ -139,7 +162,7 @@ class Creation(unittest.TestCase):
                    + list(range(16384, 16448, 8)) + [12288])
         self.assertEqual(len(offsets), 1033)
         dust = bytearray(b"\xa5" * 16512)
-        self.assertEqual(pool.create(bytearray(dust)), (0, 0, 0, 1033))
+        self.assertEqual(pool.create(bytearray(dust)), (0, 0, 0, 1033, 4096, 16448))
         for fuse, offset in enumerate(offsets):
             before = after(dust, "create", fuse=fuse)
             self.assertEqual(changed_words(before, after(dust, "create", fuse=fuse + 1)),
@@ -150,28 +173,29 @@ class Creation(unittest.TestCase):
         old = pool_of(clump(128, ACTIVE), clump(128, RESERVED))
         for fuse in range(1, 1033):
             image = bytearray(old)
-            self.assertEqual(pool.create(image, fuse=fuse), (11, 0, 0, fuse))
-            self.assertEqual(pool.check(image), ((1, 0, 0, 0), (0, 0, 0, 0, 0)))
+            self.assertEqual(pool.create(image, fuse=fuse)[:4], (11, 0, 0, fuse))
+            self.assertEqual(pool.check(image), ((1, 0, 0, 0, 0, 0), (0, 0, 0, 0, 0)))
         self.assertEqual(pool.check(after(old, "create", fuse=0))[0].answer, 0)
 
     def test_created_pool(self):
         image = fresh(16512)
         self.assertEqual(image[12288:12304], b"*PMEMALLOC_POOL\0")
         self.assertEqual(pool.word(image, 12304), 16512)
-        self.assertEqual(pool.check(image), ((0, 0, 0, 0), (128, 0, 0, 0, 0)))
+        self.assertEqual(pool.check(image), ((0, 0, 0, 0, 0, 0), (128, 0, 0, 0, 0)))
 
     def test_only_the_length_matters(self):
         for length in (0, 8, 63, 64, 12288, 16448, 16511, 16513, 16520, 65535):
-            self.assertEqual(pool.create(bytearray(length)), (1, 0, 0, 0))
+            self.assertEqual(pool.create(bytearray(length)), (1, 0, 0, 0, 0, 0))
         for length in (16512, 16576, 32768, 65472, 65536):
-            self.assertEqual(pool.create(bytearray(b"\xff" * length)), (0, 0, 0, 1033))
+            self.assertEqual(pool.create(bytearray(b"\xff" * length)),
+                             (0, 0, 0, 1033, 4096, 16448))
 
 
 class Soundness(unittest.TestCase):
 
     def assert_fault(self, image, fault, place):
-        self.assertEqual(pool.check(image), ((2, place, fault, 0), (0, 0, 0, 0, 0)))
-        self.assertEqual(pool.recover(image), (2, place, fault, 0))
+        self.assertEqual(pool.check(image), ((2, place, fault, 0, 0, 0), (0, 0, 0, 0, 0)))
+        self.assertEqual(pool.recover(image), (2, place, fault, 0, 0, 0))
 
     # Clumps at 16384, 16512 and 16704.
     def three(self, middle_state=RESERVED, *entries):
@@ -225,7 +249,7 @@ class Soundness(unittest.TestCase):
         for at in range(300):
             image = cases.sound_pool(dice, settled=at % 2 == 0)
             answer, totals = pool.check(image)
-            self.assertEqual(answer, (0, 0, 0, 0))
+            self.assertEqual(answer, (0, 0, 0, 0, 0, 0))
             self.assertEqual(sum(totals), len(image) - 16384)
 
 
@@ -272,6 +296,212 @@ class Stores(unittest.TestCase):
             self.assertEqual(pool.word(behind, offset), value)
         whole = pool.ask(bytearray(image), name, numbers)
         self.assertEqual((whole.answer, whole.stores), (0, len(expected)))
+
+
+# ---------------------------------------------------------------------------
+# W1: "Tell the driver which bytes to flush."
+# ---------------------------------------------------------------------------
+
+class BytesToFlush(unittest.TestCase):
+
+    # What is expected at each fuse from 0 to the length of the list of stores.
+    def assert_at_every_cut(self, image, name, numbers, *expected):
+        for fuse, flushed in enumerate(expected):
+            given = pool.ask(bytearray(image), name, numbers, fuse)
+            self.assertEqual((given.stores, given.flush_from, given.flush_to),
+                             (fuse, *flushed))
+        self.assertEqual(given.answer, 0)
+        self.assertEqual(pool.ask(bytearray(image), name, numbers), given)
+
+    # A cut that has no word changed, but stores to flush.
+    def assert_kept(self, image, name, numbers, fuse, flushed):
+        cut = bytearray(image)
+        self.assertEqual(pool.ask(cut, name, numbers, fuse), (11, 0, 0, fuse, *flushed))
+        self.assertEqual(cut, image)
+
+    # "A finished create gives 4096 and 16448."
+    def test_create(self):
+        for length in (16512, 32768, 65536):
+            self.assertEqual(pool.create(bytearray(length))[4:], (4096, 16448))
+
+    # The first word at 12288; with the static words from 4096 on; with the header
+    # page up to 16383; with the eight words at 16384.
+    def test_create_cut(self):
+        for fuse, flushed in ((0, (0, 0)), (1, (12288, 12296)), (513, (4096, 12296)),
+                              (1024, (4096, 16384)), (1032, (4096, 16448))):
+            given = pool.create(filled(16512, 165), fuse=fuse)
+            self.assertEqual(given, (11, 0, 0, fuse, *flushed))
+
+    # The second store is at 4096, the lowest offset of all.  The static words lie
+    # below 12288, so the end waits for store 514; from there it goes up by a word
+    # with each store.
+    def test_create_at_every_cut(self):
+        for fuse in range(2, 1033):
+            end = 12296 if fuse <= 513 else 12296 + 8 * (fuse - 513)
+            self.assertEqual(pool.create(filled(16512, 165), fuse=fuse)[4:], (4096, end))
+
+    # 01's case H: state; the static word twice; two targets emptied; state again.
+    def test_h(self):
+        image = pool_of(clump(256, RESERVED, (4096, 7), (4096, 9)))
+        self.assert_at_every_cut(
+            image, "activate", (16448,), (0, 0), (16392, 16400), (4096, 16400),
+            (4096, 16400), (4096, 16408), (4096, 16424), (4096, 16424))
+
+    # The state at 16520; a lower body, a higher one (the last word of the image), its
+    # own body.  The list and the state again lie between.  The static area has no
+    # target, so the range starts above it.
+    def test_activate_bodies(self):
+        image = pool_of(clump(128, ACTIVE),
+                        clump(128, RESERVED, (16456, 1), (16760, 2), (16576, 3)),
+                        clump(128, ACTIVE))
+        self.assertEqual(len(image), 16768)
+        self.assert_at_every_cut(
+            image, "activate", (16576,), (0, 0), (16520, 16528), (16456, 16528),
+            *[(16456, 16768)] * 6)
+
+    # The rest's header at 16512, the targets at 16400, 16416 and 16432, the nbytes
+    # at 16384, the state at 16392.
+    def test_reserve_with_a_split(self):
+        image = pool_of(clump(512, FREE, (1, 1), (2, 2), (3, 3)))
+        self.assert_at_every_cut(
+            image, "reserve", (64,), (0, 0), (16512, 16520), (16512, 16528),
+            (16400, 16528), (16400, 16528), (16400, 16528), (16384, 16528),
+            (16384, 16528))
+
+    # The targets upward from 16528, then the state at 16520; nbytes isn't stored.
+    def test_reserve_of_a_whole_clump(self):
+        image = pool_of(clump(128, ACTIVE), clump(192, FREE, (1, 1), (2, 2), (3, 3)))
+        self.assert_at_every_cut(
+            image, "reserve", (100,), (0, 0), (16528, 16536), (16528, 16552),
+            (16528, 16568), (16520, 16568))
+
+    # The value of the second entry at 16424, then its target at 16416.  The word
+    # that the target names isn't stored to.
+    def test_onactive(self):
+        image = pool_of(clump(128, RESERVED, (4096, 1)))
+        self.assert_at_every_cut(image, "onactive", (16448, 8184, 5),
+                                 (0, 0), (16424, 16432), (16416, 16432))
+
+    # The third entry, of a clump at 16512: the value at 16568, the target at 16560.
+    def test_onfree(self):
+        image = pool_of(clump(128, FREE), clump(128, ACTIVE, (4096, 1), (4096, 2)))
+        self.assert_at_every_cut(image, "onfree", (16576, 4096, 5),
+                                 (0, 0), (16568, 16576), (16560, 16576))
+
+    # The target of the second entry, one word.
+    def test_withdraw(self):
+        for state in (RESERVED, ACTIVE):
+            image = pool_of(clump(128, state, (4096, 1), (4104, 2)))
+            self.assert_at_every_cut(image, "withdraw", (16448,), (0, 0), (16416, 16424))
+
+    # The clump is at 16512, so its state is at 16520: FREEING, then FREE.
+    def test_free_without_a_join(self):
+        image = pool_of(clump(128, ACTIVE), clump(128, ACTIVE), clump(128, ACTIVE))
+        self.assert_at_every_cut(image, "free", (16576,), (0, 0), (16520, 16528),
+                                 (16520, 16528))
+
+    # Joined to the one below: that one's nbytes is at 16384.
+    def test_free_that_joins_below(self):
+        image = pool_of(clump(128, FREE), clump(128, ACTIVE), clump(128, ACTIVE))
+        self.assert_at_every_cut(image, "free", (16576,), (0, 0), (16520, 16528),
+                                 (16520, 16528), (16384, 16528))
+
+    # Joined to the one above: its own nbytes at 16512, nothing of the one above.
+    def test_free_that_joins_above(self):
+        image = pool_of(clump(128, ACTIVE), clump(128, ACTIVE), clump(128, FREE))
+        self.assert_at_every_cut(image, "free", (16576,), (0, 0), (16520, 16528),
+                                 (16520, 16528), (16512, 16528))
+
+    # Both joins; a RESERVED clump has one state to store and drops its list.
+    def test_free_of_reserved_that_joins_both(self):
+        image = pool_of(clump(128, FREE), clump(128, RESERVED, (4096, 1)), clump(128, FREE))
+        self.assert_at_every_cut(image, "free", (16576,), (0, 0), (16520, 16528),
+                                 (16512, 16528), (16384, 16528))
+
+    # An assignment above the clump, one in the static area, then the join below.
+    def test_free_with_a_list(self):
+        image = pool_of(clump(128, FREE), clump(128, ACTIVE, (16704, 1), (8184, 2)),
+                        clump(128, ACTIVE))
+        self.assert_at_every_cut(image, "free", (16576,), (0, 0), (16520, 16528),
+                                 (16520, 16712), (8184, 16712), (8184, 16712),
+                                 (8184, 16712))
+
+    # The assignment to 4096; the states at 16520, 16392 and 16776; the nbytes of
+    # the two runs at 16384 and 16768.
+    def test_recover(self):
+        image = pool_of(clump(128, RESERVED), clump(128, FREEING, (4096, 1)),
+                        clump(128, ACTIVE), clump(128, RESERVED), clump(128, FREE))
+        self.assert_at_every_cut(
+            image, "recover", (), (0, 0), (4096, 4104), (4096, 16528), (4096, 16528),
+            (4096, 16784), (4096, 16784), (4096, 16784))
+
+    # The lowest clump and the highest have nothing to be done.
+    def test_recover_in_the_middle(self):
+        image = pool_of(clump(128, ACTIVE), clump(128, RESERVED), clump(128, FREE),
+                        clump(128, ACTIVE))
+        self.assert_at_every_cut(image, "recover", (), (0, 0), (16520, 16528),
+                                 (16512, 16528))
+
+    # "Both are 0 when nothing was stored."  Nothing to do is done with any fuse.
+    def test_recover_with_nothing_to_do(self):
+        image = pool_of(clump(128, ACTIVE, (4096, 1)), clump(128, FREE))
+        for fuse in (0, 1, LARGEST):
+            self.assertEqual(pool.recover(bytearray(image), fuse=fuse), (0, 0, 0, 0, 0, 0))
+
+    def test_check(self):
+        self.assertEqual(pool.ask(bytearray(MIXED), "check", ()), (0, 0, 0, 0, 0, 0))
+
+    # "This joins the shared answer, refusals included": 1 to 10, with any fuse.
+    def test_refusals(self):
+        refused = (
+            (1, 0, 0, bytearray(64), "create", ()),
+            (1, 0, 0, bytearray(16512), "recover", ()),
+            (2, 16640, 2, with_words(MIXED, {16648: 5}), "check", ()),
+            (2, 16640, 2, with_words(MIXED, {16648: 5}), "recover", ()),
+            (3, 0, 0, with_words(MIXED, {16392: FREEING}), "reserve", (1,)),
+            (4, 0, 0, MIXED, "reserve", (0,)),
+            (5, 0, 0, MIXED, "reserve", (1000,)),
+            (6, 0, 0, MIXED, "activate", (16384,)),
+            (7, 0, 0, MIXED, "free", (MIXED_FREE,)),
+            (8, 0, 0, MIXED, "onactive", (MIXED_RESERVED, 4096, 1)),
+            (9, 0, 0, MIXED, "withdraw", (MIXED_BARE_ACTIVE,)),
+            (10, 0, 0, MIXED, "onfree", (MIXED_ACTIVE, 8192, 1)))
+        for answer, place, fault, image, name, numbers in refused:
+            for fuse in (0, 1, LARGEST):
+                self.assertEqual(pool.ask(bytearray(image), name, numbers, fuse),
+                                 (answer, place, fault, 0, 0, 0))
+
+    # "A store that keeps a word's value still counts."  Zeros over zeros: the
+    # first word of create, then its static words too.
+    def test_kept_by_create(self):
+        for fuse, flushed in ((1, (12288, 12296)), (2, (4096, 12296)),
+                              (513, (4096, 12296))):
+            self.assert_kept(bytearray(16512), "create", (), fuse, flushed)
+
+    # A finished create over the pool that it makes has every word as before.
+    def test_kept_by_a_finished_create(self):
+        image = fresh(16512)
+        self.assertEqual(pool.create(image), (0, 0, 0, 1033, 4096, 16448))
+        self.assertEqual(image, fresh(16512))
+
+    # The three targets of an empty list, at 16400, 16416 and 16432.
+    def test_kept_by_reserve(self):
+        image = pool_of(clump(128, FREE))
+        for fuse, flushed in ((1, (16400, 16408)), (2, (16400, 16424)),
+                              (3, (16400, 16440))):
+            self.assert_kept(image, "reserve", (64,), fuse, flushed)
+
+    # The value that the empty entry has kept.
+    def test_kept_by_onactive(self):
+        image = pool_of(clump(128, RESERVED, (0, 999)))
+        self.assert_kept(image, "onactive", (16448, 4096, 999), 1, (16408, 16416))
+
+    # A target that holds the value already, assigned again by recovery.
+    def test_kept_by_recover(self):
+        image = pool_of(clump(128, ACTIVATING, (4096, 7), (16504, 8)))
+        image = with_words(image, {4096: 7, 16504: 8})
+        for fuse, flushed in ((1, (4096, 4104)), (2, (4096, 16512))):
+            self.assert_kept(image, "recover", (), fuse, flushed)
 
 
 # ---------------------------------------------------------------------------
@@ -327,7 +557,7 @@ class OverManyPools(unittest.TestCase):
             for fuse in range(stores + 1):
                 twice = recovered(after(image, name, *numbers, fuse=fuse))
                 before = bytes(twice)
-                self.assertEqual(pool.recover(twice, fuse=0), (0, 0, 0, 0))
+                self.assertEqual(pool.recover(twice, fuse=0), (0, 0, 0, 0, 0, 0))
                 self.assertEqual(twice, before)
 
     # A cut recovery, recovered, leaves the same image as an uncut one.
@@ -346,7 +576,7 @@ class OverManyPools(unittest.TestCase):
             whole = after(image, name, *numbers)
             for fuse in range(stores):
                 cut = bytearray(image)
-                self.assertEqual(pool.ask(cut, name, numbers, fuse), (11, 0, 0, fuse))
+                self.assertEqual(pool.ask(cut, name, numbers, fuse)[:4], (11, 0, 0, fuse))
                 self.assertLessEqual(
                     len(changed_words(cut, after(image, name, *numbers, fuse=fuse + 1))), 1)
             for fuse in (stores, stores + 1, LARGEST):
@@ -498,6 +728,22 @@ class TheGenerator(unittest.TestCase):
             self.assertEqual(given.fault != 0, given.answer == 2)
             self.assertLessEqual(given.stores, one.fuse if one.name != "check" else 0)
 
+    # W1: "the lowest offset stored to and the offset just past the highest", of the
+    # stores made and as tight as that; every byte outside of it stays.
+    def test_every_case_flushes_what_it_stored(self):
+        for one in self.cases:
+            image = bytearray(one.image)
+            given, offsets = heard(image, one)
+            start, end = given.flush_from, given.flush_to
+            self.assertEqual(len(offsets), given.stores)
+            self.assertEqual((start == 0, end == 0), (given.stores == 0,) * 2)
+            if given.stores:
+                self.assertEqual((start % 8, end % 8), (0, 0))
+                self.assertGreaterEqual(end - start, 8)
+                self.assertEqual((start, end), (min(offsets), max(offsets) + 8))
+            same = image[:start] == one.image[:start] and image[end:] == one.image[end:]
+            self.assertTrue(same, (one.name, one.numbers, one.fuse, given))
+
     # "s becomes (s * 257 + b + 1) modulo 4294967291", over every byte b.
     def byte_by_byte(self, data):
         total = 0
@@ -549,6 +795,33 @@ class TheGenerator(unittest.TestCase):
             swapped = generate.checksum(with_words(image, dict([second])))
             self.assertNotEqual(swapped, sums[cut], (first, second))
             image = with_words(image, dict([first]))
+
+    # The families of kept words are what they say: each of their requests has a cut,
+    # or its end, where the changed words alone would give other bytes to flush.
+    def test_kept_words(self):
+        asked, told = set(), set()
+        for one in (*cases.create_over_the_same_words(), *cases.kept_words()):
+            image = bytearray(one.image)
+            given = pool.ask(image, one.name, one.numbers, one.fuse)
+            changed = changed_words(one.image, image)
+            asked.add((one.image, one.name, one.numbers))
+            if given.stores and (not changed or (given.flush_from, given.flush_to)
+                                 != (changed[0], changed[-1] + 8)):
+                told.add((one.image, one.name, one.numbers))
+        self.assertEqual(len(asked), 9)
+        self.assertEqual(told, asked)
+
+    def test_last_word_assigned(self):
+        ends = [pool.ask(bytearray(one.image), one.name, one.numbers, one.fuse).flush_to
+                for one in cases.last_word_assigned()]
+        self.assertEqual(ends, [0] + [16528] * 2 + [65536] * 6)
+
+    # The line of a cut of 01's case H, worked by hand but for the sum.
+    def test_outcome_line(self):
+        image = pool_of(clump(256, RESERVED, (4096, 7), (4096, 9)))
+        total = generate.checksum(after(image, "activate", 16448, fuse=4))
+        self.assertEqual(generate.outcome_line(77, case(image, "activate", 16448, fuse=4)),
+                         "77 11 0 0 4 4096 16408 0 0 256 0 0 %d\n" % total)
 
     def test_the_files_are_up_to_date(self):
         self.assertEqual(generate.differences(generate.files_wanted()), [])

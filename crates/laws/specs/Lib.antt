@@ -25,4 +25,5 @@ pub mod OneWord
 pub mod Named
 pub mod Spare
 pub mod Counting
+pub mod Flushing
 pub mod Sampled

@@ -43,16 +43,20 @@ takes-miss N i h x =
       whole = λ z o w a b e f. ⊎-elim (λ y. inl (omega arith)) (λ y. inr (omega arith)) (x .whole z);
     }
 
+-- a byte outside a range lies before it or behind it
+pub outside : (a b i : ℕ) → within a b i ≡ false → (i < a) ⊎ (b ≤ i)
+outside a b i = go (leb a i) refl
+  where
+    go : (c : Bool) → leb a i ≡ c → (c && ltb i b) ≡ false → (i < a) ⊎ (b ≤ i)
+    go true q f = inr (ltb-false i b f)
+    go false q f = inl (leb-false a i q)
+
 -- a store that no list names
 named-miss : (i : ℕ) (st : List Store) → any (λ s. within (s .to) (s .to + wordBytes) i) st ≡ false → Each (Miss i) st
 unfolding any
 named-miss i [] e = tt
 named-miss i (s ∷ st) e =
-    let x = or-neither (within (s .to) (s .to + wordBytes) i) _ e in (go (leb (s .to) i) refl (x .0), named-miss i st (x .1))
-  where
-    go : (c : Bool) → leb (s .to) i ≡ c → (c && ltb i (s .to + wordBytes)) ≡ false → Miss i s
-    go true q f = inr (ltb-false i (s .to + wordBytes) f)
-    go false q f = inl (leb-false (s .to) i q)
+    let x = or-neither (within (s .to) (s .to + wordBytes) i) _ e in (outside (s .to) (s .to + wordBytes) i (x .0), named-miss i st (x .1))
 
 misses :
     (n i : ℕ) (m : Mem) (q : Request)

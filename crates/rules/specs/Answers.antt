@@ -1,6 +1,6 @@
--- What a request answers (01, "What a request answers"): the numbers, the verdict on a request, and the answer read off it.
+-- What a request answers (01, "What a request answers"; 02, W1): the numbers, the verdict on a request, and the answer read off it.
 -- A verdict is the one description of what a request does: everything else is a function of it. Assumes nothing.
-use Prim.Native.Nat.{ℕ, _+_}
+use Prim.Native.Nat.{ℕ, _+_, min, max}
 use mathlib.Core.Bool.{Bool, true, false, not}
 use mathlib.Core.Option.{Option, some, none}
 use mathlib.Core.List.{List, [], _∷_}
@@ -9,7 +9,7 @@ use lib.ListN.{length, take}
 use Rattle.rules.specs.declared.Answer.{Answer}
 use Rattle.rules.specs.declared.Totals.{Totals}
 use Rattle.rules.specs.Lists.{those}
-use Rattle.rules.specs.Words.{Mem, Store}
+use Rattle.rules.specs.Words.{Mem, Store, wordBytes}
 use Rattle.rules.specs.Pages.{isPool}
 use Rattle.rules.specs.Clumps.{Head, hasState, FREE, RESERVED, ACTIVATING, ACTIVE, FREEING, walk}
 use Rattle.rules.specs.Sound.{Fault, judge, unsettled}
@@ -76,10 +76,34 @@ storesOf (granted p st) = st
 abbrev pub made : ℕ → Verdict → List Store
 made fuse v = take fuse (storesOf v)
 
+-- W1: "which bytes to flush": from the lowest offset up to the one just past the highest
+pub record Flush : Type 0 where
+  pub from : ℕ
+  pub to : ℕ
+
+-- these bytes, and those of the stores made after them
+unfoldable pub widened : Flush → List Store → Flush
+widened r [] = r
+widened r (s ∷ st) = widened (record { from = min (r .from) (s .to); to = max (r .to) (s .to + wordBytes) }) st
+
+-- W1: "the lowest offset stored to and the offset just past the highest. Both are 0 when nothing was stored. A store that keeps a
+-- word's value still counts."
+abbrev pub flushOf : List Store → Flush
+flushOf [] = record { from = 0; to = 0 }
+flushOf (s ∷ st) = widened (record { from = s .to; to = s .to + wordBytes }) st
+
 -- "Answer, place, fault number, count of stores.", with the stores that were made. "The count is the number made, also where a word
--- keeps its value."
+-- keeps its value." W1: "Every answer should also carry" what to flush, "refusals included". "A cut answer covers only the stores made."
 abbrev pub answerBy : ℕ → ℕ → ℕ → List Store → Answer
-answerBy a p f st = record { answer = a; place = p; fault = f; stores = length st }
+answerBy a p f st =
+    record {
+      answer = a;
+      place = p;
+      fault = f;
+      stores = length st;
+      «flush_from» = flushOf st .from;
+      «flush_to» = flushOf st .to;
+    }
 
 -- "If the list is longer, the answer is 11; a fuse equal to its length is enough." The place is then 0.
 abbrev pub answerAt : Bool → ℕ → List Store → Answer

@@ -14,7 +14,7 @@ use Rattle.rules.specs.Words.{Mem, Store, store, wordValues, le, puts, w
 use Rattle.rules.specs.Pages.{headerAt, signatureLow, signatureHigh, signatureHighAt, totalAt, clumpsAt, staticAt, rightLength, isPool}
 use Rattle.rules.specs.Clumps.{stateAt, headsFrom, walk}
 use Rattle.rules.specs.Sound.{sizeBad, stateBad, inPlace, gapped, listBad, faultOf, clumpFault, secondFault, isValid, allValid, targetFault, judge, touching, unsettled}
-use Rattle.rules.specs.Answers.{storesOf, answerOf, ifSound, ifSettled, bytesOf}
+use Rattle.rules.specs.Answers.{storesOf, widened, answerOf, ifSound, ifSettled, bytesOf}
 use Rattle.rules.specs.Stores.{createStores, needOf, reserveStores, finishActivating, finishFreeing, activateStores, dropStores, freeStores, releasing, runs, joining, recoverStores}
 use Rattle.rules.specs.Requests.{reserve, enlist, withdraw, activate, free, verdict, answerFor}
 
@@ -94,7 +94,7 @@ fresh = poolOf ((16384, 0) ∷ []) []
 
 -- a row is computed by opening every rule that it may meet
 unfoldable pub everyRule : Unit {0}
-unfolding seek those any all le puts wordAt put mem upd after zeros allZero signatureLow signatureHigh rightLength isPool headsFrom walk sizeBad stateBad inPlace gapped listBad faultOf clumpFault secondFault isValid allValid targetFault judge touching unsettled answerOf ifSound ifSettled bytesOf createStores needOf reserveStores finishActivating finishFreeing activateStores dropStores freeStores releasing runs joining recoverStores reserve enlist withdraw activate free verdict
+unfolding seek those any all le puts wordAt put mem upd after zeros allZero signatureLow signatureHigh rightLength isPool headsFrom walk sizeBad stateBad inPlace gapped listBad faultOf clumpFault secondFault isValid allValid targetFault judge touching unsettled widened answerOf ifSound ifSettled bytesOf createStores needOf reserveStores finishActivating finishFreeing activateStores dropStores freeStores releasing runs joining recoverStores reserve enlist withdraw activate free verdict
 everyRule = tt
 
 abbrev pub Cases : Type 0

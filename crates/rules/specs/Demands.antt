@@ -1,20 +1,21 @@
--- What is promised of a request, as named statements: the first two demands, and the sentences of 01 that speak of all requests at
--- once. PowerLoss has the third demand.
+-- What is promised of a request, as named statements: the first two demands, and the sentences of 01 and 02 that speak of all requests
+-- at once. PowerLoss has the third demand.
 -- Nothing is proved here: the crate that proves a statement has a value of that very type. Assumes nothing.
-use Prim.Native.Nat.{ℕ, _+_, _-_, _*_, _<_, _≤_}
+use Prim.Native.Nat.{ℕ, _+_, _-_, _*_, _%_, _<_, _≤_}
 use mathlib.Core.Path.{_≡_}
 use mathlib.Core.Bool.{true, false, cond}
 use mathlib.Core.Logic.{_↔_, _⊎_}
 use mathlib.Core.Option.{Option, some, none}
 use mathlib.Core.List.{List, [], _∷_, _++_}
+use lib.Dec.{eqb}
 use lib.ListN.{length, getD, take}
 use Rattle.rules.specs.declared.Answer.{Answer}
 use Rattle.rules.specs.declared.Request.{Request}
 use Rattle.rules.specs.declared.Request.the-variants.{Create, Reserve, Onactive, Onfree, Withdraw, Activate, Free, Check, Recover}
 use Rattle.rules.specs.Lists.{seek, any, Each}
 use Rattle.rules.specs.Words.{Image, Mem, Store, Bytes, Aligned, mem, wordBytes}
-use Rattle.rules.specs.Pages.{isPool, clumpsAt}
-use Rattle.rules.specs.Clumps.{Head, bodyOf, endOf, FREE, RESERVED, ACTIVE, hasState, isLive, isPending, entries}
+use Rattle.rules.specs.Pages.{isPool, staticAt, clumpsAt}
+use Rattle.rules.specs.Clumps.{Head, headerBytes, bodyOf, endOf, FREE, RESERVED, ACTIVE, hasState, isLive, isPending, entries}
 use Rattle.rules.specs.Sound.{judge, unsettled}
 use Rattle.rules.specs.Answers.{done, notSound, noRoom, cutShort}
 use Rattle.rules.specs.Stores.{createCount, needOf, leastRest, splitCount, wholeCount, mostActivateCount, mostFreeCount}
@@ -150,6 +151,44 @@ Counted img Recover r = Unit {0}
 
 abbrev pub Counts : Type 0
 Counts = (img : Image) (q : Request) (fuse : ℕ) → let r = answerOn img q fuse in r .answer ≡ done → Counted img q r
+
+-- the tightest range around stores: one is made where it begins, one ends where it ends, and none reaches beyond
+abbrev pub Tightest : ℕ → ℕ → List Store → Type 0
+Tightest from to st =
+    (any (λ s. eqb (s .to) from) st ≡ true)
+    × (any (λ s. eqb (s .to + wordBytes) to) st ≡ true)
+    × Each (λ s. (from ≤ s .to) × (s .to + wordBytes ≤ to)) st
+
+-- W1: "Every answer should also carry the lowest offset stored to and the offset just past the highest. Both are 0 when nothing was
+-- stored. .. A cut answer covers only the stores made." And every byte outside is what it was.
+abbrev pub Flushes : Type 0
+Flushes =
+    (img : Image) (q : Request) (fuse : ℕ)
+    → let r = answerOn img q fuse in
+    let from = r .«flush_from» in
+    let to = r .«flush_to» in
+    ((r .stores ≡ 0) ↔ ((from ≡ 0) × (to ≡ 0)))
+    × (0 < r .stores → Tightest from to (take fuse (storesFor img q)))
+    × ((i : ℕ) → within from to i ≡ false → getD (cut img q fuse) i 0 ≡ getD img i 0)
+
+-- so what the driver is told to flush are whole words of the image
+abbrev pub FlushesInside : Type 0
+FlushesInside =
+    (img : Image) (q : Request) (fuse : ℕ)
+    → let r = answerOn img q fuse in
+    Bytes img
+    → Numbers q
+    → (r .«flush_from» % wordBytes ≡ 0)
+    × (r .«flush_to» % wordBytes ≡ 0)
+    × (r .«flush_to» ≤ length img)
+
+-- W1: "A finished create gives 4096 and 16448."
+abbrev pub CreateFlushes : Type 0
+CreateFlushes =
+    (img : Image) (fuse : ℕ)
+    → let r = answerOn img Create fuse in
+    r .answer ≡ done
+    → (r .«flush_from» ≡ staticAt) × (r .«flush_to» ≡ clumpsAt + headerBytes)
 
 -- Demand 2: "bodies and static area change only at the words named in the list being carried out"
 abbrev pub OnlyNamed : Type 0

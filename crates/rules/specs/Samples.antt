@@ -1,5 +1,5 @@
 -- The rules that the cases A to J leave out, sampled: pages, faults and their order, valid targets, each answer, each exact list of
--- stores, totals and fuses, as one table over the definitions, proved by one statement. The numbers expected follow from 01 by hand.
+-- stores, totals, fuses and what to flush, as one table over the definitions, proved by one statement. The numbers expected follow from 01 and 02 by hand.
 -- Assumes nothing.
 use Prim.Native.Nat.{ℕ}
 use mathlib.Core.Path.{_≡_, refl}
@@ -58,6 +58,10 @@ abbrev pub fused : ℕ → ℕ × ℕ × ℕ
 fused k =
     let r = answerIn k (poolOf ((1216, 0) ∷ []) []) (Reserve 1000) in
     (r .answer, r .place, r .stores)
+
+-- what a request says to flush, under a fuse
+abbrev pub flushed : ℕ → Pool → Request → ℕ × ℕ
+flushed k p q = let r = answerIn k p q in (r .«flush_from», r .«flush_to»)
 
 abbrev pub Samples : Type 0
 Samples =
@@ -154,7 +158,31 @@ Samples =
     -- fuses of 0, one too few, and enough
     × (map fused (0 ∷ 6 ∷ 7 ∷ 8 ∷ [])
     ≡ (11, 0, 0) ∷ (11, 0, 6) ∷ (0, 16448, 7) ∷ (0, 16448, 7) ∷ [])
+    -- W1, what to flush. Of create: cut before its first store and after it, after the static area, after the header page, before the
+    -- last; finished
+    × (map (λ k. flushed k (32768, λ o. o) Create) (0 ∷ 1 ∷ 513 ∷ 1024 ∷ 1032 ∷ 1033 ∷ [])
+    ≡ (0, 0) ∷ (12288, 12296) ∷ (4096, 12296) ∷ (4096, 16384) ∷ (4096, 16448) ∷ (4096, 16448) ∷ [])
+    -- of reserve, splitting (the rest's state, at 17480, is the highest) and not: there the targets hold 0 already, and count
+    × (map (λ k. flushed k (poolOf ((1216, 0) ∷ []) []) (Reserve 1000)) (0 ∷ 1 ∷ 2 ∷ 5 ∷ 6 ∷ 7 ∷ [])
+    ≡ (0, 0) ∷ (17472, 17480) ∷ (17472, 17488) ∷ (16400, 17488) ∷ (16384, 17488) ∷ (16384, 17488) ∷ [])
+    × (map (λ k. flushed k (poolOf ((1152, 0) ∷ []) []) (Reserve 1000)) (1 ∷ 3 ∷ 4 ∷ []) ≡ (16400, 16408) ∷ (16400, 16440) ∷ (16392, 16440) ∷ [])
+    -- of onactive, value first, and of withdraw
+    × (map (λ k. flushed k (listing 1 (4096, 0, 0)) (Onactive 16448 8184 9)) (1 ∷ 2 ∷ []) ≡ (16424, 16432) ∷ (16416, 16432) ∷ [])
+    × (flushed longest (listing 3 (4096, 4104, 0)) (Withdraw 16448) ≡ (16416, 16424))
+    -- of H at every cut
+    × (map (λ k. flushed k caseH (Activate 16448)) (0 ∷ 1 ∷ 2 ∷ 3 ∷ 4 ∷ 5 ∷ 6 ∷ [])
+    ≡ (0, 0) ∷ (16392, 16400) ∷ (4096, 16400) ∷ (4096, 16400) ∷ (4096, 16408) ∷ (4096, 16424) ∷ (4096, 16424) ∷ [])
+    -- of a free that joins the clump below, without a list (I) and with one
+    × (flushed longest (poolOf ((256, 0) ∷ (256, 3) ∷ (256, 0) ∷ []) []) (Free 16704) ≡ (16384, 16656))
+    × (flushed longest between (Free 16576) ≡ (4096, 16528))
+    -- of recover, and of one with nothing to do
+    × (flushed longest broken Recover ≡ (4096, 16912))
+    × (flushed longest (under longest broken Recover) Recover ≡ (0, 0))
+    -- of check, and of what is refused: with 2, 3, 4, 6 and 7, and with 1
+    × (map (flushed longest between) (Check ∷ Reserve 0 ∷ Free 16384 ∷ Activate 16576 ∷ []) ≡ replicate 4 (0, 0))
+    × ((flushed longest (listing 3 (8, 0, 0)) (Reserve 1) ∷ flushed longest broken (Reserve 1) ∷ flushed longest (16448, λ o. o) Create ∷ [])
+    ≡ replicate 3 (0, 0))
 
 samples : Samples
 unfolding everyRule
-samples = (refl, refl, refl, refl, refl, refl, refl, refl, refl, refl, refl, refl, refl, refl, refl, refl, refl, refl, refl, refl, refl, refl, refl, refl, refl, refl, refl, refl, refl, refl, refl, refl, refl, refl, refl, refl, refl, refl)
+samples = (refl, refl, refl, refl, refl, refl, refl, refl, refl, refl, refl, refl, refl, refl, refl, refl, refl, refl, refl, refl, refl, refl, refl, refl, refl, refl, refl, refl, refl, refl, refl, refl, refl, refl, refl, refl, refl, refl, refl, refl, refl, refl, refl, refl, refl, refl, refl, refl, refl, refl)

@@ -1,13 +1,15 @@
 // The plain types that the definitions and the code share: a request, its answer, and check's totals.
 // Holds no function. What the fields mean is said in specs/, in document 01's words.
 
-// What a request answers. The meaning of each number is in specs/Answers.antt.
+// What a request answers. The meaning of each number is in specs/Answers.antt. From flush_from up to flush_to are the bytes to flush.
 #[repr(C)]
 pub struct Answer {
     pub answer: u64,
     pub place: u64,
     pub fault: u64,
     pub stores: u64,
+    pub flush_from: u64,
+    pub flush_to: u64,
 }
 
 // The answers of document 01, by name.

@@ -24,18 +24,22 @@ pub fn refusal(answer: u64) -> Answer
         place: 0,
         fault: 0,
         stores: 0,
+        flush_from: 0,
+        flush_to: 0,
     }
 }
 
 // The answer of that number and place, with what the power tells of the stores.
 fn ended(p: Power, number: u64, place: u64) -> Answer
-    ensures { λ r. ⌜ r ≡ record { answer = number; place = place; fault = 0; stores = p .made } ⌝ }
+    ensures { λ r. ⌜ r ≡ record { answer = number; place = place; fault = 0; stores = p .made; «flush_from» = p .from; «flush_to» = p .to } ⌝ }
 {
     Answer {
         answer: number,
         place,
         fault: 0,
         stores: p.made,
+        flush_from: p.from,
+        flush_to: p.to,
     }
 }
 

@@ -85,6 +85,8 @@ fn unstored(answer: u64, place: u64, fault: u64) -> Answer
         place,
         fault,
         stores: 0,
+        flush_from: 0,
+        flush_to: 0,
     }
 }
 

@@ -7,16 +7,16 @@ use Rattle.vectors.specs.declared.run.Outcome.{Outcome}
 use Rattle.vectors.specs.declared.run.Ran.{Ran}
 use Rattle.vectors.specs.declared.run.Ran.the-variants.{Done, Malformed}
 
--- a buffer of this many bytes holds every line: eleven numbers
+-- a buffer of this many bytes holds every line: thirteen numbers
 abbrev pub lineBytes : ℕ
-lineBytes = 256
+lineBytes = 288
 
 -- the first k numbers, each with a space after it
 unfoldable pub spaced : List ℕ → ℕ → List ℕ
 spaced ns zero = []
 spaced ns (suc k) = spaced ns k ++ field (getD ns k 0) space
 
--- N ANSWER PLACE FAULT STORES FREE RESERVED ACTIVATING ACTIVE FREEING SUM
+-- N ANSWER PLACE FAULT STORES FROM TO FREE RESERVED ACTIVATING ACTIVE FREEING SUM
 abbrev pub fieldsOf : ℕ → Outcome → List ℕ
 fieldsOf n o =
     n
@@ -24,6 +24,8 @@ fieldsOf n o =
     ∷ o .answer .place
     ∷ o .answer .fault
     ∷ o .answer .stores
+    ∷ o .answer .«flush_from»
+    ∷ o .answer .«flush_to»
     ∷ o .totals .free
     ∷ o .totals .reserved
     ∷ o .totals .activating
@@ -38,7 +40,7 @@ bad = 98 ∷ 97 ∷ 100 ∷ newline ∷ []
 
 -- the line of a case, by its number and what it leads to
 abbrev pub lineOf : List ℕ → List ℕ
-lineOf ns = spaced ns 10 ++ field (getD ns 10 0) newline
+lineOf ns = spaced ns 12 ++ field (getD ns 12 0) newline
 
 abbrev pub textOf : ℕ → Ran → List ℕ
 textOf n (Done o) = lineOf (fieldsOf n o)

@@ -18,7 +18,7 @@ mod sum;
 
 // Prints the line of a case. False where the write failed, which is told already.
 fn print(case: u64, ran: Ran) -> bool {
-    let mut out = [0u8; 256];
+    let mut out = [0u8; 288];
     let n = reply::line(&mut out, case, ran);
     streams::write_whole(STDOUT_FILENO, b"standard output", &out[..n])
 }

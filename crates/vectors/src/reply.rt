@@ -1,5 +1,5 @@
-// The line that a case gets, put together in a buffer from its start on. Asks for a buffer of 256 bytes: a number takes 21 at most, with
-// the byte behind it, so that the eleven of a line fit.
+// The line that a case gets, put together in a buffer from its start on. Asks for a buffer of 288 bytes: a number takes 21 at most, with
+// the byte behind it, so that the thirteen of a line fit.
 ghost use mathlib.Core.Path.{_≡_};
 ghost use Prim.Native.Nat.{_≤_};
 ghost use lib.ListN.{length};
@@ -9,8 +9,8 @@ ghost use Rattle.vectors.specs.Texts.{lineBytes, fieldsOf, textOf};
 use crate::run::Outcome;
 use crate::run::Ran;
 
-// N ANSWER PLACE FAULT STORES FREE RESERVED ACTIVATING ACTIVE FREEING SUM
-fn fields(case: u64, o: Outcome) -> [u64; 11]
+// N ANSWER PLACE FAULT STORES FROM TO FREE RESERVED ACTIVATING ACTIVE FREEING SUM
+fn fields(case: u64, o: Outcome) -> [u64; 13]
     ensures { λ r. ⌜ r ≡ fieldsOf case o ⌝ }
 {
     let a = o.answer;
@@ -21,6 +21,8 @@ fn fields(case: u64, o: Outcome) -> [u64; 11]
         a.place,
         a.fault,
         a.stores,
+        a.flush_from,
+        a.flush_to,
         t.free,
         t.reserved,
         t.activating,
@@ -39,11 +41,11 @@ fn done(out: &mut [u8], case: u64, o: Outcome) -> usize
     let f = fields(case, o);
     let mut at: usize = 0;
     let mut i: usize = 0;
-    while i < 10 {
+    while i < 12 {
         at = text::number(out, at, f[i], b' ');
         i += 1;
     }
-    text::number(out, at, f[10], b'\n')
+    text::number(out, at, f[12], b'\n')
 }
 
 // The line of a malformed one.

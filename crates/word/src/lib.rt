@@ -1,8 +1,10 @@
 // Words of a lent image, and the one function that stores one while the fuse lasts.
 // `get` and `store` ask for an offset that is divisible by 8 and lies in the image: their callers have judged the image first.
 ghost use mathlib.Core.Path.{_≡_};
+ghost use mathlib.Core.Bool.{cond};
 ghost use mathlib.Core.List.{[], _∷_};
-ghost use Prim.Native.Nat.{_+_, _*_, _%_, _≤_, _<_};
+ghost use Prim.Native.Nat.{_+_, _*_, _%_, _≤_, _<_, min, max};
+ghost use lib.Dec.{eqb};
 ghost use lib.ListN.{length};
 ghost use Rattle.rules.specs.Words.{wordBytes, wordValues, le, puts, put, mem, store};
 ghost use Rattle.word.specs.Runs.{full, Ran};
@@ -73,11 +75,14 @@ fn set(img: &mut [u8], at: usize, w: u64)
     set32(img, at + 4, w / 4294967296);
 }
 
-// The power that a request has: how many stores the fuse still lasts for, how many were made, and whether one was asked for in vain.
+// The power that a request has: how many stores the fuse still lasts for, how many were made, and whether one was asked for in vain; and
+// what is to be flushed of those made: from the lowest offset up to the one just past the highest, both 0 before the first.
 pub struct Power {
     pub left: u64,
     pub made: u64,
     pub cut: bool,
+    pub from: u64,
+    pub to: u64,
 }
 
 impl Power {
@@ -89,8 +94,33 @@ impl Power {
             left: fuse,
             made: 0,
             cut: false,
+            from: 0,
+            to: 0,
         }
     }
+}
+
+// The lowest offset stored to, with one more: just that one where nothing was stored, so that nothing is to be flushed.
+fn lowest(from: u64, to: u64, at: u64) -> u64
+    ensures { λ r. ⌜ r ≡ cond (eqb to 0) at (min from at) ⌝ }
+{
+    if to == 0 {
+        return at;
+    }
+    if at <= from {
+        return at;
+    }
+    from
+}
+
+// The offset just past the highest, with one more.
+fn past_highest(to: u64, end: u64) -> u64
+    ensures { λ r. ⌜ r ≡ max to end ⌝ }
+{
+    if end <= to {
+        return to;
+    }
+    end
 }
 
 // A call of a C function that the optimizer does not know. For all that it can tell the function looks at the image, which is the caller's
@@ -107,11 +137,15 @@ pub fn store(img: &mut [u8], p: Power, at: usize, w: u64) -> Power
     ensures { λ r. ⌜ Ran (now (img .entry)) p (store at w ∷ []) (now (img .exit)) r ⌝ }
 {
     let left = p.left;
+    let from = lowest(p.from, p.to, at as u64);
+    let to = past_highest(p.to, at as u64 + 8);
     if left == 0 {
         return Power {
             left: 0,
             made: p.made,
             cut: true,
+            from: p.from,
+            to: p.to,
         };
     }
     set(img, at, w);
@@ -120,5 +154,7 @@ pub fn store(img: &mut [u8], p: Power, at: usize, w: u64) -> Power
         left: left - 1,
         made: p.made + 1,
         cut: p.cut,
+        from,
+        to,
     }
 }

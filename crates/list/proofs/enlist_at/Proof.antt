@@ -67,10 +67,10 @@ store-requires c κs = let b = empty-in (c .before .before .before .before .befo
     (omega arith, (omega arith, rw f (omega (arith, c .before .before .before .before .before .before .before .before .before .before .before .before .before .before .fits .fuse))))
 
 store-requires-2 : tie.Need-store-requires-2
-store-requires-2 c κs = let b = empty-in (c .before .before .before .before .before .before .before .before .before .before .before .before .before .before .before .before .before .before .args .h) (c .before .before .before .before .before .before .before .before .before .before .before .list .result) (λ z. c .before .before .before .before .before .before .before .before .before .if2 .left (c .before .before .before .before .before .before .before .before .before .before .empty-slot .ensures ∙ z)) (search needs) in
+store-requires-2 c κs = let b = empty-in (c .before .before .before .before .before .before .before .before .before .before .before .before .before .before .before .before .before .before .args .h) (c .before .before .before .before .before .before .before .before .before .before .before .list .result) (λ z. c .before .before .before .before .before .before .before .before .before .if2 .left (c .before .before .before .before .before .before .before .before .before .before .empty-slot .ensures ∙ z)) (c .before .before .before .before .before .before .before .before .before .before .before .before .before .before .before .before .before .before .pre .1 .1) in
     let e = c .before .before .before .before .before .before .before .before .before .before .empty-slot .ensures in
     let f = c .before .before .before .before .before .new .ensures in
-    (omega (arith, c .before .before .before .store .ensures .long), (omega arith, rw (c .before .before .before .store .ensures .sum, f) (omega (arith, c .before .before .before .before .before .before .before .before .before .before .before .before .before .before .before .before .before .before .fits .fuse))))
+    (omega (arith, c .before .before .before .store .ensures .long, c .before .before .before .before .before .before .before .before .before .before .before .before .before .before .before .before .before .before .pre), (omega arith, rw (c .before .before .before .store .ensures .sum, f) (omega (arith, c .before .before .before .before .before .before .before .before .before .before .before .before .before .before .before .before .before .before .fits .fuse))))
 
 finish-requires : tie.Need-finish-requires
 finish-requires c κs = search needs

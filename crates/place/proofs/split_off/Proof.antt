@@ -27,7 +27,7 @@ store-requires-3 : tie.Need-store-requires-3
 store-requires-3 c κs = search needs
 
 add-store-4 : tie.Need-add-store-4
-add-store-4 c = search needs
+add-store-4 c = let a = c .before .before .before .before .before .before .before .before .before .before .before .before .before .before .before .before .before .before in search (needs, a .pre, a .fits)
 
 store-requires-4 : tie.Need-store-requires-4
 store-requires-4 c κs = omega (arith, c .before .before .before .before .before .before .before .before .before .before .before .before .before .before .before .store .ensures .long, c .before .before .before .before .before .before .before .before .before .before .before .store2 .ensures .long, c .before .before .before .before .before .before .before .empty-targets .ensures .long, c .before .before .before .store3 .ensures .long, c .before .before .before .before .before .before .before .before .before .before .before .before .before .before .before .store .ensures .sum, c .before .before .before .before .before .before .before .before .before .before .before .store2 .ensures .sum, c .before .before .before .before .before .before .before .empty-targets .ensures .sum, c .before .before .before .store3 .ensures .sum, c .before .before .before .before .before .before .before .before .before .before .before .before .before .before .before .before .before .before .pre)

@@ -1,4 +1,4 @@
--- `done`: after i turns the first i fields are written, in 21 bytes each at most; the eleventh ends the line. Assumes nothing.
+-- `done`: after i turns the first i fields are written, in 21 bytes each at most; the thirteenth ends the line. Assumes nothing.
 use Prim.Native.Nat.{_-_, _*_, _≤_}
 use mathlib.Core.Path.{_≡_, refl, _∙_}
 use native.Mathlib.Omega.{arith}
@@ -12,10 +12,10 @@ use Rattle.vectors.proofs.reply.done.Statement.{statement}
 use Rattle.vectors.proofs.reply.done.Tie as tie
 
 abbrev Inv-loop : tie.InvT-loop
-Inv-loop out₀ case f at₀ i₀ out at i = (i ≤ 10) × (at ≤ fieldBytes * i) × (length out ≡ length out₀) × Wrote out₀ 0 (spaced f i) out at
+Inv-loop out₀ case f at₀ i₀ out at i = (i ≤ 12) × (at ≤ fieldBytes * i) × (length out ≡ length out₀) × Wrote out₀ 0 (spaced f i) out at
 
 abbrev μ-loop : tie.MeasureT-loop
-μ-loop out₀ case f at₀ i₀ out at i = 10 - i
+μ-loop out₀ case f at₀ i₀ out at i = 12 - i
 
 fields-requires : tie.Need-fields-requires Inv-loop μ-loop
 fields-requires c κs = tt
@@ -58,7 +58,7 @@ same-length c = c .before .before .number2 .kept .0 ∙ c .before .before .befor
 returns : tie.Need-returns Inv-loop μ-loop
 returns c =
     let l = c .before .before .before .before .before .loop in
-    let e : l .i ≡ 10 = omega arith in
+    let e : l .i ≡ 12 = omega arith in
     let w = wrote-then (rw e at (l .inv .3)) (c .before .before .number2 .ensures .0) in
     (rw (c .before .before .before .before .before .before .fields .ensures) at w, omega arith)
 

@@ -1,0 +1,10 @@
+-- `ended`: field by field. Assumes nothing.
+use mathlib.Core.Path.{refl}
+use Rattle.steps.proofs.ended.Statement.{statement}
+use Rattle.steps.proofs.ended.Tie as tie
+
+returns : tie.Need-returns
+returns c = refl
+
+pub ended-spec : {M : Type 1} → statement M
+ended-spec = tie.close (tie.spec returns)

@@ -3,10 +3,10 @@
  *     kiln FILE
  *
  * FILE is the memory: 32,768 bytes, mapped, so that what is stored stays when the process ends; after each request that is done just the
- * bytes that it stored are flushed, as its answer tells. Started on no file, it makes the pool,
- * gives one command, and is cut off while the second goes live. Started again, it recovers, frees the first command, and is cut off in
- * that. Started a third time, it recovers, and ends. A cut is made by a fuse: the library stores so many words and no more, and the process
- * then kills itself, as a power loss would.
+ * bytes that it stored are flushed, as its answer tells. Started on no file, it makes the pool, gives one command, and is cut off while
+ * the second goes live. Started again, it recovers, frees the first command, and is cut off in that. Started a third time, it recovers,
+ * and ends. A cut is made by a fuse: the library stores so many words and no more, and the process then kills itself, as a power loss
+ * would.
  *
  * It prints a line for each request, answer, place and stores, and offset, nbytes and state of each clump on the way: the lines of
  * tests/scripts/kiln.out, over three runs. Exit status: 0; 1 if a request was refused or the file cannot be had; killed where it is cut. */

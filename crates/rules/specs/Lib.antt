@@ -1,4 +1,5 @@
--- Documents 01 and 02 as definitions, in their words and their order. This folder is what a reader must believe.
+-- Document 01 as definitions, in its words and its order, with the requests of document 02 that have landed. This folder is what a
+-- reader must believe.
 pub mod Lists
 pub mod Words
 pub mod Pages

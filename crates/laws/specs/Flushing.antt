@@ -17,7 +17,7 @@ use Rattle.rules.specs.Lists.{any, Each}
 use Rattle.rules.specs.Words.{Image, Store, Aligned, wordBytes, carry, zeros}
 use Rattle.rules.specs.Pages.{staticAt, clumpsAt}
 use Rattle.rules.specs.Clumps.{headerBytes}
-use Rattle.rules.specs.Answers.{Verdict, refused, granted, Flush, widened, flushOf, answerAt, answerOf, storesOf}
+use Rattle.rules.specs.Answers.{Verdict, refused, granted, Flush, wider, widened, flushOf, answerAt, answerOf, storesOf}
 use Rattle.rules.specs.Stores.{createStores}
 use Rattle.rules.specs.Requests.{verdictOn, storesFor}
 use Rattle.rules.specs.Reading.{within}
@@ -35,7 +35,7 @@ holds :
 unfolding widened
 holds r [] = (omega arith, omega arith, tt)
 holds r (s ∷ st) =
-    let h = holds (record { from = min (r .from) (s .to); to = max (r .to) (s .to + wordBytes) }) st in
+    let h = holds (wider r s) st in
     (omega (arith, h .0), omega (arith, h .1), ((omega (arith, h .0), omega (arith, h .1)), h .2))
 
 -- a number that is one of two, and is met, is met in one of them
@@ -60,7 +60,7 @@ meets :
 unfolding widened any
 meets r [] = (rw (eq-eqb (r .from) (r .from) refl), rw (eq-eqb (r .to) (r .to) refl))
 meets r (s ∷ st) =
-    let h = meets (record { from = min (r .from) (s .to); to = max (r .to) (s .to + wordBytes) }) st in
+    let h = meets (wider r s) st in
     (either (r .from) (s .to) _ _ _ lower (h .0), either (r .to) (s .to + wordBytes) _ _ _ upper (h .1))
   where
     lower : (min (r .from) (s .to) ≡ r .from) ⊎ (min (r .from) (s .to) ≡ s .to)

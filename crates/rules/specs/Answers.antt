@@ -81,10 +81,13 @@ pub record Flush : Type 0 where
   pub from : ℕ
   pub to : ℕ
 
--- these bytes, and those of the stores made after them
+-- with the word of one store more, and of stores made one after the other
+abbrev pub wider : Flush → Store → Flush
+wider r s = record { from = min (r .from) (s .to); to = max (r .to) (s .to + wordBytes) }
+
 unfoldable pub widened : Flush → List Store → Flush
 widened r [] = r
-widened r (s ∷ st) = widened (record { from = min (r .from) (s .to); to = max (r .to) (s .to + wordBytes) }) st
+widened r (s ∷ st) = widened (wider r s) st
 
 -- W1: "the lowest offset stored to and the offset just past the highest. Both are 0 when nothing was stored. A store that keeps a
 -- word's value still counts."

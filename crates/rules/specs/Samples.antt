@@ -1,6 +1,6 @@
 -- The rules that the cases A to J leave out, sampled: pages, faults and their order, valid targets, each answer, each exact list of
--- stores, totals, fuses and what to flush, as one table over the definitions, proved by one statement. The numbers expected follow from 01 and 02 by hand.
--- Assumes nothing.
+-- stores, totals, fuses and what to flush, as one table over the definitions, proved by one statement. The numbers expected follow from
+-- 01 and 02 by hand. Assumes nothing.
 use Prim.Native.Nat.{ℕ}
 use mathlib.Core.Path.{_≡_, refl}
 use mathlib.Core.Bool.{true, false}

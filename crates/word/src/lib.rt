@@ -100,7 +100,7 @@ impl Power {
     }
 }
 
-// The lowest offset stored to, with one more: just that one where nothing was stored, so that nothing is to be flushed.
+// The lowest offset stored to, with one more. Where nothing was stored yet, as an end of 0 says, it is that one.
 fn lowest(from: u64, to: u64, at: u64) -> u64
     ensures { λ r. ⌜ r ≡ cond (eqb to 0) at (min from at) ⌝ }
 {

@@ -65,20 +65,20 @@ fn enlist_at(
 {
     let c = Clump::read(img, h);
     if c.state != allowed {
-        return steps::refusal(Answer::WRONG_STATE);
+        return answer::refusal(Answer::WRONG_STATE);
     }
     let l = Clump::list(img, h);
     let s = empty_slot(h, l);
     if s == 0 {
-        return steps::refusal(Answer::LIST_FULL);
+        return answer::refusal(Answer::LIST_FULL);
     }
     if !walk::valid(img, target) {
-        return steps::refusal(Answer::BAD_TARGET);
+        return answer::refusal(Answer::BAD_TARGET);
     }
     let p = Power::new(fuse);
     let p1 = word::store(img, p, s + 8, value);
     let p2 = word::store(img, p1, s, target);
-    steps::finish(p2, offset)
+    answer::finish(p2, offset)
 }
 
 pub fn onactive(img: &mut [u8], offset: u64, target: u64, value: u64, fuse: u64) -> Answer
@@ -89,7 +89,7 @@ pub fn onactive(img: &mut [u8], offset: u64, target: u64, value: u64, fuse: u64)
         return a;
     }
     let Found::At(h) = walk::find(img, offset) else {
-        return steps::refusal(Answer::NO_CLUMP);
+        return answer::refusal(Answer::NO_CLUMP);
     };
     enlist_at(img, h, Clump::RESERVED, offset, target, value, fuse)
 }
@@ -102,7 +102,7 @@ pub fn onfree(img: &mut [u8], offset: u64, target: u64, value: u64, fuse: u64) -
         return a;
     }
     let Found::At(h) = walk::find(img, offset) else {
-        return steps::refusal(Answer::NO_CLUMP);
+        return answer::refusal(Answer::NO_CLUMP);
     };
     enlist_at(img, h, Clump::ACTIVE, offset, target, value, fuse)
 }
@@ -115,16 +115,16 @@ fn withdraw_at(img: &mut [u8], h: usize, offset: u64, fuse: u64) -> Answer
 {
     let c = Clump::read(img, h);
     if !judge::waits(c.state) {
-        return steps::refusal(Answer::WRONG_STATE);
+        return answer::refusal(Answer::WRONG_STATE);
     }
     let l = Clump::list(img, h);
     let s = last_slot(h, l);
     if s == 0 {
-        return steps::refusal(Answer::LIST_EMPTY);
+        return answer::refusal(Answer::LIST_EMPTY);
     }
     let p = Power::new(fuse);
     let p1 = word::store(img, p, s, 0);
-    steps::finish(p1, offset)
+    answer::finish(p1, offset)
 }
 
 pub fn withdraw(img: &mut [u8], offset: u64, fuse: u64) -> Answer
@@ -135,7 +135,7 @@ pub fn withdraw(img: &mut [u8], offset: u64, fuse: u64) -> Answer
         return a;
     }
     let Found::At(h) = walk::find(img, offset) else {
-        return steps::refusal(Answer::NO_CLUMP);
+        return answer::refusal(Answer::NO_CLUMP);
     };
     withdraw_at(img, h, offset, fuse)
 }

@@ -151,12 +151,12 @@ pub fn recover(img: &mut [u8], fuse: u64) -> Answer
     let p = Power::new(fuse);
     let p1 = finish_pending(img, p);
     if p1.cut {
-        return steps::finish(p1, 0);
+        return answer::finish(p1, 0);
     }
     let p2 = release_reserved(img, p1);
     if p2.cut {
-        return steps::finish(p2, 0);
+        return answer::finish(p2, 0);
     }
     let p3 = join_runs(img, p2);
-    steps::finish(p3, 0)
+    answer::finish(p3, 0)
 }

@@ -47,12 +47,12 @@ pub fn create(img: &mut [u8], fuse: u64) -> Answer
     ensures { λ r. ⌜ Does (now (img .entry)) Create fuse (now (img .exit)) r ⌝ }
 {
     if !page::right_length(img.len()) {
-        return steps::refusal(Answer::NOT_A_POOL);
+        return answer::refusal(Answer::NOT_A_POOL);
     }
     let p = Power::new(fuse);
     let p1 = write_pages(img, p);
     let p2 = write_clump(img, p1);
-    steps::finish(p2, 0)
+    answer::finish(p2, 0)
 }
 
 // need, where it fits.
@@ -99,10 +99,10 @@ fn reserve_at(img: &mut [u8], h: usize, size: u64, fuse: u64) -> Answer
     let p = Power::new(fuse);
     if Clump::LEAST <= n - need {
         let q = split_off(img, p, h, need as usize, n - need);
-        return steps::finish(q, h as u64 + Clump::HEADER);
+        return answer::finish(q, h as u64 + Clump::HEADER);
     }
     let q = take_whole(img, p, h);
-    steps::finish(q, h as u64 + Clump::HEADER)
+    answer::finish(q, h as u64 + Clump::HEADER)
 }
 
 pub fn reserve(img: &mut [u8], size: u64, fuse: u64) -> Answer
@@ -113,11 +113,11 @@ pub fn reserve(img: &mut [u8], size: u64, fuse: u64) -> Answer
         return a;
     }
     if size == 0 {
-        return steps::refusal(Answer::SIZE_ZERO);
+        return answer::refusal(Answer::SIZE_ZERO);
     }
     let h = walk::first_fit(img, size);
     if img.len() <= h {
-        return steps::refusal(Answer::NO_ROOM);
+        return answer::refusal(Answer::NO_ROOM);
     }
     reserve_at(img, h, size, fuse)
 }

@@ -1,4 +1,4 @@
-// The runs of stores that requests are made of, each through the one store function, and the answers that they end in.
+// The runs of stores that requests are made of, each through the one store function.
 // A run asks that its words lie in the image, which its caller has judged, and says what it leaves by `Ran`.
 ghost use mathlib.Core.Path.{_≡_};
 ghost use mathlib.Core.List.{[], _∷_, _++_};
@@ -7,52 +7,11 @@ ghost use lib.ListN.{length};
 ghost use Rattle.rules.specs.Words.{wordBytes, wordValues, store, zeros};
 ghost use Rattle.rules.specs.Clumps.{headerBytes, slots, stateAt, ACTIVE, FREE};
 ghost use Rattle.rules.specs.Stores.{emptying};
-ghost use Rattle.word.specs.Runs.{Ran, told};
-ghost use Rattle.laws.specs.Pools.{answerIs};
+ghost use Rattle.word.specs.Runs.{Ran};
 ghost use Rattle.page.specs.Forms.{InImage};
 ghost use Rattle.steps.specs.Lists.{assignsOf, emptiesOf};
 use page::clump::Clump;
-use rules::Answer;
 use word::Power;
-
-// A refusal with place 0 and fault 0.
-pub fn refusal(answer: u64) -> Answer
-    ensures { λ r. ⌜ r ≡ answerIs answer 0 0 ⌝ }
-{
-    Answer {
-        answer,
-        place: 0,
-        fault: 0,
-        stores: 0,
-        flush_from: 0,
-        flush_to: 0,
-    }
-}
-
-// The answer of that number and place, with what the power tells of the stores.
-fn ended(p: Power, number: u64, place: u64) -> Answer
-    ensures { λ r. ⌜ r ≡ record { answer = number; place = place; fault = 0; stores = p .made; «flush_from» = p .from; «flush_to» = p .to } ⌝ }
-{
-    Answer {
-        answer: number,
-        place,
-        fault: 0,
-        stores: p.made,
-        flush_from: p.from,
-        flush_to: p.to,
-    }
-}
-
-// The end of a request that stores: done with its place, or cut.
-pub fn finish(p: Power, place: u64) -> Answer
-    ensures { λ r. ⌜ r ≡ told p place ⌝ }
-{
-    let cut = p.cut;
-    if cut {
-        return ended(p, Answer::CUT, 0);
-    }
-    ended(p, Answer::DONE, place)
-}
 
 // 0 to each of `count` words from `from` on, upward.
 pub fn zero_words(img: &mut [u8], p: Power, from: usize, count: usize) -> Power

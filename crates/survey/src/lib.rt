@@ -9,7 +9,6 @@ ghost use Rattle.rules.specs.Words.{mem};
 ghost use Rattle.rules.specs.Sound.{unsettled};
 ghost use Rattle.rules.specs.Answers.{granted, ifSound, ifSettled, answerOf, totalOf};
 ghost use Rattle.rules.specs.Reading.{clumpsOf, Tiled};
-ghost use Rattle.laws.specs.Pools.{answerIs};
 ghost use Rattle.survey.specs.Checking.{Checks};
 use judge::Judged;
 use page::CLUMPS_AT;
@@ -76,32 +75,18 @@ fn total(img: &[u8], state: u64) -> u64
     }
 }
 
-// An answer without a store.
-fn unstored(answer: u64, place: u64, fault: u64) -> Answer
-    ensures { λ r. ⌜ r ≡ answerIs answer place fault ⌝ }
-{
-    Answer {
-        answer,
-        place,
-        fault,
-        stores: 0,
-        flush_from: 0,
-        flush_to: 0,
-    }
-}
-
 // The tests 1 and 2: the refusal, or answer 0.
 pub fn sound(img: &[u8]) -> Answer
     ensures { λ r. ⌜ ((fuse : ℕ) → r ≡ answerOf fuse (ifSound (length (now (img .entry))) (mem (now (img .entry))) (granted 0 []))) ⌝ }
 {
     if !page::is_pool(img) {
-        return unstored(Answer::NOT_A_POOL, 0, 0);
+        return answer::unstored(Answer::NOT_A_POOL, 0, 0);
     }
     let j = judge::judge(img);
     let Judged::Fault { place, fault } = j else {
-        return unstored(Answer::DONE, 0, 0);
+        return answer::unstored(Answer::DONE, 0, 0);
     };
-    unstored(Answer::NOT_SOUND, place, fault)
+    answer::unstored(Answer::NOT_SOUND, place, fault)
 }
 
 // The tests 1, 2 and 3, which every request but create, check and recover begins with: the refusal, or answer 0.
@@ -113,7 +98,7 @@ pub fn survey(img: &[u8]) -> Answer
         return a;
     }
     if is_unsettled(img) {
-        return unstored(Answer::UNSETTLED, 0, 0);
+        return answer::unstored(Answer::UNSETTLED, 0, 0);
     }
     a
 }

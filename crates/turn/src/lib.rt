@@ -32,16 +32,16 @@ fn activate_at(img: &mut [u8], h: usize, offset: u64, fuse: u64) -> Answer
 {
     let c = Clump::read(img, h);
     if c.state != Clump::RESERVED {
-        return steps::refusal(Answer::WRONG_STATE);
+        return answer::refusal(Answer::WRONG_STATE);
     }
     let l = Clump::list(img, h);
     if !walk::all_valid(img, l) {
-        return steps::refusal(Answer::BAD_TARGET);
+        return answer::refusal(Answer::BAD_TARGET);
     }
     let p = Power::new(fuse);
     let p1 = word::store(img, p, h + 8, Clump::ACTIVATING);
     let p2 = steps::finish_activating(img, p1, h, l);
-    steps::finish(p2, offset)
+    answer::finish(p2, offset)
 }
 
 pub fn activate(img: &mut [u8], offset: u64, fuse: u64) -> Answer
@@ -52,7 +52,7 @@ pub fn activate(img: &mut [u8], offset: u64, fuse: u64) -> Answer
         return a;
     }
     let Found::At(h) = walk::find(img, offset) else {
-        return steps::refusal(Answer::NO_CLUMP);
+        return answer::refusal(Answer::NO_CLUMP);
     };
     activate_at(img, h, offset, fuse)
 }
@@ -160,7 +160,7 @@ fn release(
     let p1 = drop_list(img, p, h, state, l);
     let p2 = store_if(img, p1, next, h, both);
     let p3 = store_if(img, p2, under, below, all);
-    steps::finish(p3, offset)
+    answer::finish(p3, offset)
 }
 
 // Free, in the clump at h.
@@ -172,11 +172,11 @@ fn free_at(img: &mut [u8], h: usize, offset: u64, fuse: u64) -> Answer
 {
     let c = Clump::read(img, h);
     if !judge::waits(c.state) {
-        return steps::refusal(Answer::WRONG_STATE);
+        return answer::refusal(Answer::WRONG_STATE);
     }
     let l = Clump::list(img, h);
     if !may_drop(img, c.state, l) {
-        return steps::refusal(Answer::BAD_TARGET);
+        return answer::refusal(Answer::BAD_TARGET);
     }
     release(img, h, c.state, c.nbytes, l, offset, fuse)
 }
@@ -189,7 +189,7 @@ pub fn free(img: &mut [u8], offset: u64, fuse: u64) -> Answer
         return a;
     }
     let Found::At(h) = walk::find(img, offset) else {
-        return steps::refusal(Answer::NO_CLUMP);
+        return answer::refusal(Answer::NO_CLUMP);
     };
     free_at(img, h, offset, fuse)
 }

@@ -1,7 +1,7 @@
 -- `finish`: by the cut. Assumes nothing.
 use borrow.Author.Needs.{needs}
-use Rattle.steps.proofs.finish.Statement.{statement}
-use Rattle.steps.proofs.finish.Tie as tie
+use Rattle.answer.proofs.finish.Statement.{statement}
+use Rattle.answer.proofs.finish.Tie as tie
 
 ended-requires : tie.Need-ended-requires
 ended-requires c κs = search needs

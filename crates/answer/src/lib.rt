@@ -1,7 +1,8 @@
 // What a request answers: without a store, and what the power tells at its end. Each function takes any numbers and any power; none sees an
 // image.
 ghost use mathlib.Core.Path.{_≡_};
-ghost use Rattle.word.specs.Runs.{told};
+ghost use Rattle.rules.specs.Answers.{answerBy};
+ghost use Rattle.word.specs.Runs.{range, told};
 ghost use Rattle.laws.specs.Pools.{answerIs};
 use rules::Answer;
 use word::Power;
@@ -29,7 +30,7 @@ pub fn refusal(answer: u64) -> Answer
 
 // The answer of that number and place, with what the power tells of the stores.
 fn ended(p: Power, number: u64, place: u64) -> Answer
-    ensures { λ r. ⌜ r ≡ record { answer = number; place = place; fault = 0; stores = p .made; «flush_from» = p .from; «flush_to» = p .to } ⌝ }
+    ensures { λ r. ⌜ r ≡ answerBy number place 0 (p .made) (range p) ⌝ }
 {
     Answer {
         answer: number,

@@ -13,7 +13,7 @@ use Rattle.rules.specs.declared.Request.the-variants.{Create, Reserve, Onactive
 use Rattle.rules.specs.Words.{Image, Mem, Store, mem}
 use Rattle.rules.specs.Pages.{clumpsAt}
 use Rattle.rules.specs.Clumps.{Head, hasState, isUsed, slots, usedSlots, entry, entries, FREE, ACTIVE, FREEING}
-use Rattle.rules.specs.Answers.{answerAt}
+use Rattle.rules.specs.Answers.{flushOf, answerAt}
 use Rattle.rules.specs.Stores.{setState, leastRest, reserveStores, finishActivating, finishFreeing, activateStores, dropStores, joinBefore, joinBoth, freeAfter, freeBefore, freeStores, needOf, fits}
 use Rattle.rules.specs.Reading.{clumpsOf}
 use Rattle.rules.specs.Demands.{Counted, Counts}
@@ -63,7 +63,7 @@ free-few m hs h =
     omega (arith, length-append (dropStores m h) (joinBoth (freeAfter hs h) (freeBefore hs h) h), drop-few m h, both-few (freeAfter hs h) (freeBefore hs h) h)
 
 -- the answer of a grant
-counted : (img : Image) (q : Request) (p : ℕ) (st : List Store) → Grants (length img) (mem img) q p st → Counted img q (answerAt false p st)
+counted : (img : Image) (q : Request) (p : ℕ) (st : List Store) → Grants (length img) (mem img) q p st → Counted img q (answerAt false p (length st) (flushOf st))
 counted img Create p st e = ap length e ∙ create-length (length img)
 counted img (Reserve size) p st g = (
   g .clump,

@@ -88,7 +88,7 @@ unfolding answerOf
 answers P h fuse (refused a p f) = rw (take-nil {A = Store} fuse) (h [])
 answers P h fuse (granted p st) = go (ltb fuse (length st))
   where
-    go : (b : Bool) → let r = answerAt b p (take fuse st) in P (take fuse st) (r .stores) (r .«flush_from») (r .«flush_to»)
+    go : (b : Bool) → let r = answerAt b p (length (take fuse st)) (flushOf (take fuse st)) in P (take fuse st) (r .stores) (r .«flush_from») (r .«flush_to»)
     go true = h (take fuse st)
     go false = h (take fuse st)
 

@@ -17,7 +17,7 @@ use Rattle.rules.specs.Words.{Image, Mem, Store, mem}
 use Rattle.rules.specs.Pages.{isPool, rightLength}
 use Rattle.rules.specs.Clumps.{Head, bodyOf, RESERVED, ACTIVE, hasState, isWaiting, isEmpty, slots, usedSlots, walk}
 use Rattle.rules.specs.Sound.{Fault, judge, unsettled, isValid, allValid}
-use Rattle.rules.specs.Answers.{done, notPool, notSound, notSettled, sizeZero, wrongState, badTarget, cutShort, Verdict, refused, granted, test, testFault, answerAt, answerOf, ifSound, ifSettled}
+use Rattle.rules.specs.Answers.{done, notPool, notSound, notSettled, sizeZero, wrongState, badTarget, cutShort, Verdict, refused, granted, test, testFault, flushOf, answerAt, answerOf, ifSound, ifSettled}
 use Rattle.rules.specs.Stores.{createStores, needOf, fits, reserveStores, listStores, withdrawStores, activateStores, freeStores, recoverStores}
 use Rattle.rules.specs.Requests.{placed, reserve, finder, found, listed, enlist, withdrawn, withdraw, activate, mayDrop, free, verdict, verdictOn, answerOn}
 use Rattle.laws.specs.Pools.{Sound}
@@ -129,7 +129,7 @@ pub record Granted (G : ℕ → List Store → Type 0) (fuse : ℕ) (v : Verdict
   pub place : ℕ
   pub stores : List Store
   pub verdict-is : v ≡ granted place stores
-  pub answer-is : answerOf fuse v ≡ answerAt false place stores
+  pub answer-is : answerOf fuse v ≡ answerAt false place (length stores) (flushOf stores)
   pub grants : G place stores
 
 fair-done : (G : ℕ → List Store → Type 0) (fuse : ℕ) (v : Verdict) → Fair G v → answerOf fuse v .answer ≡ done → Granted G fuse v
@@ -137,9 +137,9 @@ unfolding answerOf
 fair-done G fuse (refused a p f) k e = absurd (omega (arith, k .0))
 fair-done G fuse (granted p st) k e = record { place = p; stores = st; verdict-is = refl; answer-is = go (ltb fuse (length st)) refl e; grants = k }
   where
-    go : (b : Bool) → ltb fuse (length st) ≡ b → answerAt b p (take fuse st) .answer ≡ done → answerAt b p (take fuse st) ≡ answerAt false p st
+    go : (b : Bool) → ltb fuse (length st) ≡ b → answerAt b p (length (take fuse st)) (flushOf (take fuse st)) .answer ≡ done → answerAt b p (length (take fuse st)) (flushOf (take fuse st)) ≡ answerAt false p (length st) (flushOf st)
     go true q e = absurd (omega arith)
-    go false q e = ap (answerAt false p) (take-all fuse st (ltb-false fuse (length st) q))
+    go false q e = ap (λ (l : List Store). answerAt false p (length l) (flushOf l)) (take-all fuse st (ltb-false fuse (length st) q))
 
 pub done-granted : (img : Image) (q : Request) (fuse : ℕ) → answerOn img q fuse .answer ≡ done → Granted (Grants (length img) (mem img) q) fuse (verdictOn img q)
 done-granted img q fuse e = fair-done (Grants (length img) (mem img) q) fuse (verdictOn img q) (fair (length img) (mem img) q) e

@@ -13,13 +13,13 @@ use Rattle.rules.specs.Words.{Mem}
 use Rattle.rules.specs.Pages.{clumpsAt, leastLength, mostLength, unit, rightLength, isPool}
 use Rattle.rules.specs.Clumps.{Tiles, walk}
 use Rattle.rules.specs.Sound.{Fault, judge, unsettled}
-use Rattle.rules.specs.Answers.{done, notPool, notSettled, answerBy, answerOf, Verdict, granted, test, testFault, ifSound, ifSettled}
+use Rattle.rules.specs.Answers.{done, notPool, notSettled, flushOf, answerBy, answerOf, Verdict, granted, test, testFault, ifSound, ifSettled}
 use Rattle.laws.specs.Searches.{and-both}
 use Rattle.laws.specs.Walks.{sound-tiles}
 
 -- an answer without a store, and the one of a grant that has none
 abbrev pub answerIs : ℕ → ℕ → ℕ → Answer
-answerIs a p f = answerBy a p f []
+answerIs a p f = answerBy a p f 0 (flushOf [])
 
 pub granted-none : (fuse : ℕ) → answerIs 0 0 0 ≡ answerOf fuse (granted 0 [])
 unfolding answerOf

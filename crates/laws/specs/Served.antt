@@ -16,7 +16,7 @@ use Rattle.rules.specs.declared.Request.the-variants.{Reserve}
 use Rattle.rules.specs.Lists.{seek, Each}
 use Rattle.rules.specs.Words.{Image, Store, carry}
 use Rattle.rules.specs.Clumps.{Head, isFree, FREE}
-use Rattle.rules.specs.Answers.{done, notSound, noRoom, cutShort, Verdict, refused, granted, storesOf, answerAt, answerOf, ifSound, ifSettled}
+use Rattle.rules.specs.Answers.{done, notSound, noRoom, cutShort, Verdict, refused, granted, storesOf, Flush, flushOf, answerAt, answerOf, ifSound, ifSettled}
 use Rattle.rules.specs.Stores.{needOf, fits, reserveStores}
 use Rattle.rules.specs.Requests.{placed, reserve, verdict, verdictOn}
 use Rattle.rules.specs.Demands.{Refusals, Fuses, FirstFit, NoRoom, Settled}
@@ -37,7 +37,7 @@ unfolding answerOf carry
 refuses G img fuse (refused a p f) k = (omega arith, λ l u. (refl, rw (take-nil {A = Store} fuse)), k .2)
 refuses G img fuse (granted p st) k = go (ltb fuse (length st))
   where
-    go : (b : Bool) → let r = answerAt b p (take fuse st) in (r .answer ≤ cutShort) × (done < r .answer → r .answer < cutShort → (r .stores ≡ 0) × (carry img (take fuse st) ≡ img)) × ((r .answer ≡ notSound → ⊥) → r .fault ≡ 0)
+    go : (b : Bool) → let r = answerAt b p (length (take fuse st)) (flushOf (take fuse st)) in (r .answer ≤ cutShort) × (done < r .answer → r .answer < cutShort → (r .stores ≡ 0) × (carry img (take fuse st) ≡ img)) × ((r .answer ≡ notSound → ⊥) → r .fault ≡ 0)
     go true = (omega arith, λ l u. absurd (omega arith), λ e. refl)
     go false = (omega arith, λ l u. absurd (omega arith), λ e. refl)
 
@@ -56,7 +56,7 @@ fused G fuse (refused a p f) k =
     (((λ e. absurd (omega arith)), (λ e. absurd (omega arith))), rw (take-nil {A = Store} fuse))
 fused G fuse (granted p st) k = go (ltb fuse (length st)) refl
   where
-    go : (b : Bool) → ltb fuse (length st) ≡ b → let r = answerAt b p (take fuse st) in ((r .answer ≡ cutShort) ↔ (fuse < length st)) × (r .stores ≡ length (take fuse st))
+    go : (b : Bool) → ltb fuse (length st) ≡ b → let r = answerAt b p (length (take fuse st)) (flushOf (take fuse st)) in ((r .answer ≡ cutShort) ↔ (fuse < length st)) × (r .stores ≡ length (take fuse st))
     go true e = let l = ltb-true fuse (length st) e in (((λ z. l), (λ z. refl)), refl)
     go false e = let l = ltb-false fuse (length st) e in (((λ z. absurd (omega arith)), (λ z. absurd (omega arith))), refl)
 
@@ -100,9 +100,9 @@ unfolding verdict ifSettled ifSound reserve
 reserve-served img size s l = rw (s .pool, s .sound, s .calm, ne-eqb size 0 (λ e. absurd (omega arith)))
 
 -- a grant is not "no room"
-granted-room : (b : Bool) (p : ℕ) (st : List Store) → answerAt b p st .answer ≡ noRoom → ⊥
-granted-room true p st z = omega arith
-granted-room false p st z = omega arith
+granted-room : (b : Bool) (p k : ℕ) (r : Flush) → answerAt b p k r .answer ≡ noRoom → ⊥
+granted-room true p k r z = omega arith
+granted-room false p k r z = omega arith
 
 pub no-room : NoRoom
 unfolding answerOf
@@ -111,6 +111,6 @@ no-room img size fuse s l = rw (reserve-served img size s l) (go (seek (fits (ne
     go : (o : Option Head) → seek (fits (needOf size)) (clumpsOf img) ≡ o → (answerOf fuse (placed (needOf size) o) .answer ≡ noRoom) ↔ Each (λ h. h .state ≡ FREE → h .nbytes < needOf size) (clumpsOf img)
     go none e = ((λ z. each-map _ _ (clumpsOf img) (unfit (needOf size)) (seek-none _ (clumpsOf img) e)), (λ z. refl))
     go (some h) e = (
-      (λ z. absurd (granted-room (ltb fuse (length (reserveStores (needOf size) h))) _ _ z)),
+      (λ z. absurd (granted-room (ltb fuse (length (reserveStores (needOf size) h))) _ _ _ z)),
       (λ z. some-none e (none-seek _ (clumpsOf img) (each-map _ _ (clumpsOf img) (passed (needOf size)) z))),
     )

@@ -95,27 +95,19 @@ abbrev pub flushOf : List Store → Flush
 flushOf [] = record { from = 0; to = 0 }
 flushOf (s ∷ st) = widened (record { from = s .to; to = s .to + wordBytes }) st
 
--- "Answer, place, fault number, count of stores.", with the stores that were made. "The count is the number made, also where a word
--- keeps its value." W1: "Every answer should also carry" what to flush, "refusals included". "A cut answer covers only the stores made."
-abbrev pub answerBy : ℕ → ℕ → ℕ → List Store → Answer
-answerBy a p f st =
-    record {
-      answer = a;
-      place = p;
-      fault = f;
-      stores = length st;
-      «flush_from» = flushOf st .from;
-      «flush_to» = flushOf st .to;
-    }
+-- "Answer, place, fault number, count of stores." W1: "Every answer should also carry" what to flush, "refusals included".
+abbrev pub answerBy : ℕ → ℕ → ℕ → ℕ → Flush → Answer
+answerBy a p f k r = record { answer = a; place = p; fault = f; stores = k; «flush_from» = r .from; «flush_to» = r .to }
 
 -- "If the list is longer, the answer is 11; a fuse equal to its length is enough." The place is then 0.
-abbrev pub answerAt : Bool → ℕ → List Store → Answer
-answerAt true p st = answerBy cutShort 0 0 st
-answerAt false p st = answerBy done p 0 st
+abbrev pub answerAt : Bool → ℕ → ℕ → Flush → Answer
+answerAt true p k r = answerBy cutShort 0 0 k r
+answerAt false p k r = answerBy done p 0 k r
 
+-- "The count is the number made, also where a word keeps its value." W1: "A cut answer covers only the stores made."
 unfoldable pub answerOf : ℕ → Verdict → Answer
-answerOf fuse (refused a p f) = answerBy a p f []
-answerOf fuse (granted p st) = answerAt (ltb fuse (length st)) p (take fuse st)
+answerOf fuse (refused a p f) = answerBy a p f 0 (flushOf [])
+answerOf fuse (granted p st) = let t = take fuse st in answerAt (ltb fuse (length st)) p (length t) (flushOf t)
 
 -- "Fault is 0 except with answer 2." The place of every other refusal is 0.
 abbrev pub refuse : ℕ → Verdict

@@ -13,7 +13,7 @@ use lib.Seq.{take-nil, take-all, take-append-le}
 use borrow.Author.Tests.{ne-eqb, lt-ltb, le-ltb, ltb-true, ltb-false}
 use Rattle.rules.specs.Words.{Image, Mem, Store, Aligned, wordBytes, put, mem, upd, after, carry}
 use Rattle.rules.specs.declared.Answer.{Answer}
-use Rattle.rules.specs.Answers.{Flush, widened, flushOf, done, cutShort, granted, answerAt, answerOf}
+use Rattle.rules.specs.Answers.{Flush, wider, widened, flushOf, granted, answerAt, answerOf}
 use Rattle.word.specs.Tests.{ltb-same}
 use Rattle.word.specs.Memory.{mem-put, length-put}
 use Rattle.word.specs.declared.Power.{Power}
@@ -27,7 +27,7 @@ abbrev pub range : Power → Flush
 range p = record { from = p .from; to = p .to }
 
 abbrev pub reach : Flush → Store → Flush
-reach r s = record { from = cond (eqb (r .to) 0) (s .to) (min (r .from) (s .to)); to = max (r .to) (s .to + wordBytes) }
+reach r s = record { from = cond (eqb (r .to) 0) (s .to) (wider r s .from); to = wider r s .to }
 
 unfoldable pub reached : Flush → List Store → Flush
 reached r [] = r
@@ -194,15 +194,7 @@ ran-cut {img} {x} {q} fuse st ts r e =
 
 -- what the power tells at the end of a request that stores: done with its place, or cut
 abbrev pub told : Power → ℕ → Answer
-told q place =
-    record {
-      answer = cond (q .cut) cutShort done;
-      place = cond (q .cut) 0 place;
-      fault = 0;
-      stores = q .made;
-      «flush_from» = q .from;
-      «flush_to» = q .to;
-    }
+told q place = answerAt (q .cut) place (q .made) (range q)
 
 -- from nothing on, what was reached is what the rules say to flush
 reached-widened : (r : Flush) (st : List Store) → 0 < r .to → reached r st ≡ widened r st
@@ -220,18 +212,4 @@ pub ran-answer :
     {img x : Image} {q : Power} {st : List Store} (fuse place : ℕ)
     → Ran img (full fuse) st x q → told q place ≡ answerOf fuse (granted place st)
 unfolding answerOf spent cutBy
-ran-answer {st = st} fuse place r = rw (r .power, zero-add, reached-flush (take fuse st)) (go (ltb fuse (length st)))
-  where
-    go :
-        (b : Bool)
-        → record {
-          answer = cond b cutShort done;
-          place = cond b 0 place;
-          fault = 0;
-          stores = min fuse (length st);
-          «flush_from» = flushOf (take fuse st) .from;
-          «flush_to» = flushOf (take fuse st) .to;
-        }
-        ≡ answerAt b place (take fuse st)
-    go true = rw (length-take fuse st)
-    go false = rw (length-take fuse st)
+ran-answer {st = st} fuse place r = rw (r .power, zero-add, reached-flush (take fuse st), length-take fuse st)

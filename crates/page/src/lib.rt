@@ -43,17 +43,17 @@ pub fn right_length(n: usize) -> bool
     n % 64 == 0
 }
 
-// Whether the padding of the header page is zero, a byte at a time.
+// Whether the padding of the header page is zero, a word at a time.
 fn blank_padding(img: &[u8]) -> bool
     requires { ⌜ clumpsAt ≤ length (now img) ⌝ }
     ensures { λ r. ⌜ r ≡ allZero (mem (now (img .entry))) paddingAt paddingWords ⌝ }
 {
     let mut i: usize = PADDING_AT;
     while i < CLUMPS_AT {
-        if img[i] != 0 {
+        if word::get(img, i) != 0 {
             return false;
         }
-        i += 1;
+        i += 8;
     }
     true
 }

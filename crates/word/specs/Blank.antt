@@ -1,5 +1,4 @@
--- Words that are 0 are bytes that are 0: by induction on the bytes of a word, then on the words.
--- Assumes nothing.
+-- Words that are 0 are bytes that are 0: by induction on the bytes of a word, then on the words. Assumes nothing.
 use Prim.Native.Nat.{ℕ, zero, suc, _+_, _*_, _%_, _<_, _≤_}
 use mathlib.Core.Path.{_≡_, refl, sym, _∙_}
 use mathlib.Core.Bool.{Bool, true, false, _&&_}

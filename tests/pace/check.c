@@ -1,4 +1,4 @@
-/* check ROUNDS CLUMPS: makes a pool of 32,768 bytes, reserves CLUMPS bodies of 64 bytes in it (0 to 126), and has it checked ROUNDS times.
+/* check ROUNDS CLUMPS: makes a pool of 32,768 bytes, reserves CLUMPS bodies of 64 bytes in it (0 to 128), and has it checked ROUNDS times.
  * Ends with 1 if an answer isn't DONE. `pace` links it with the library of two builds and times both. */
 #include <stdlib.h>
 

@@ -14,7 +14,7 @@ use Rattle.rules.specs.declared.Request.the-variants.{Create, Reserve, Onactive
 use Rattle.rules.specs.Lists.{seek, those, Each}
 use Rattle.rules.specs.Words.{Mem, Store, store, wordValues}
 use Rattle.rules.specs.Pages.{clumpsAt, rightLength}
-use Rattle.rules.specs.Clumps.{Head, endOf, isFree, isWaiting, isPending, isEmpty, slots, usedSlots, entries, hasState, FREE, RESERVED, ACTIVATING, ACTIVE, FREEING, walk}
+use Rattle.rules.specs.Clumps.{Head, endOf, isFree, isWaiting, isPending, isEmpty, slots, usedSlots, entries, hasState, FREE, RESERVED, ACTIVATING, ACTIVE, FREEING, walk, nextOf, beforeOf}
 use Rattle.rules.specs.Sound.{isValid, allValid}
 use Rattle.rules.specs.Answers.{Verdict, storesOf, ifSettled, notPool, sizeZero, wrongState, badTarget}
 use Rattle.rules.specs.Stores.{setState, createStores, needOf, fits, finishActivating, finishFreeing, activateStores, dropStores, freeAfter, freeBefore, joinBoth, freeStores, finishing, releasing, released, runs, joining, recoverStores}
@@ -23,6 +23,7 @@ use Rattle.rules.specs.Traces.{isCreate}
 use Rattle.rules.specs.Demands.{entriesOf, entriesIf, carriedOut}
 use Rattle.laws.specs.Searches.{those-each, and-both, seek-each, seek-split, each-append, each-map, each-both, map-each}
 use Rattle.laws.specs.Walks.{no-faults}
+use Rattle.laws.specs.Neighbours.{if-free}
 use Rattle.laws.specs.Mending.{targets-valid, tiles-released}
 use Rattle.laws.specs.Needs.{need-even}
 use Rattle.laws.specs.Behind.{behind-test, behind-sound, behind-settled, behind-found}
@@ -82,8 +83,8 @@ module _ (P : Store → Type 0) (N : Type 0) (n : ℕ) (m : Mem) (heads : Sound 
       (λ z. behind-test (Each P) tt (not (mayDrop m (walk n m) h)) badTarget _
       (λ q. each-append P (dropStores m h) (joinBoth (freeAfter (walk n m) h) (freeBefore (walk n m) h) h) (drop-lands h t e (not-false _ q))
       (both-lands P N n (freeAfter (walk n m) h) (freeBefore (walk n m) h) h t
-      (λ k i. (found-in s _ k i, eqb-true (k .at) (endOf h) (and-both (isFree k) _ (seek-split _ (walk n m) k i .passes) .1)))
-      (λ k i. (found-in s _ k i, eqb-true (endOf k) (h .at) (and-both (isFree k) _ (seek-split _ (walk n m) k i .passes) .1))))))
+      (λ k i. let x = if-free (nextOf (walk n m) h) k i .0 in (found-in s _ k x, eqb-true (k .at) (endOf h) (seek-split _ (walk n m) k x .passes)))
+      (λ k i. let x = if-free (beforeOf (walk n m) h) k i .0 in (found-in s _ k x, eqb-true (endOf k) (h .at) (seek-split _ (walk n m) k x .passes))))))
 
   finishing-lands : Sound n m → (o : Option Head) → seek isPending (walk n m) ≡ o → ((h : Head) → o ≡ some h → Carries h) → Each P (finishing m o)
   finishing-lands s none e f = tt

@@ -3,6 +3,7 @@ pub mod Searches
 pub mod Tilings
 pub mod Walks
 pub mod Walking
+pub mod Neighbours
 pub mod Pools
 pub mod Totals
 pub mod Headers

@@ -88,7 +88,7 @@ pub fn onactive(img: &mut [u8], offset: u64, target: u64, value: u64, fuse: u64)
     if a.answer != Answer::DONE {
         return a;
     }
-    let Found::At(h) = walk::find(img, offset) else {
+    let Found::At(h, _) = walk::find(img, offset) else {
         return answer::refusal(Answer::NO_CLUMP);
     };
     enlist_at(img, h, Clump::RESERVED, offset, target, value, fuse)
@@ -101,7 +101,7 @@ pub fn onfree(img: &mut [u8], offset: u64, target: u64, value: u64, fuse: u64) -
     if a.answer != Answer::DONE {
         return a;
     }
-    let Found::At(h) = walk::find(img, offset) else {
+    let Found::At(h, _) = walk::find(img, offset) else {
         return answer::refusal(Answer::NO_CLUMP);
     };
     enlist_at(img, h, Clump::ACTIVE, offset, target, value, fuse)
@@ -134,7 +134,7 @@ pub fn withdraw(img: &mut [u8], offset: u64, fuse: u64) -> Answer
     if a.answer != Answer::DONE {
         return a;
     }
-    let Found::At(h) = walk::find(img, offset) else {
+    let Found::At(h, _) = walk::find(img, offset) else {
         return answer::refusal(Answer::NO_CLUMP);
     };
     withdraw_at(img, h, offset, fuse)

@@ -11,13 +11,12 @@ use Rattle.rules.specs.declared.Request.the-variants.{Create}
 use Rattle.rules.specs.Lists.{seek}
 use Rattle.rules.specs.Words.{Image, Mem, Store, mem, store, zeros, wordBytes, wordValues}
 use Rattle.rules.specs.Pages.{pageBytes, staticAt, headerAt, signatureLow, signatureHigh, signatureHighAt, totalAt, paddingAt, paddingWords, clumpsAt, unit, rightLength}
-use Rattle.rules.specs.Clumps.{Head, head, isFree, headerBytes, slots, stateAt, FREE, RESERVED, Tiles, walk}
+use Rattle.rules.specs.Clumps.{Head, head, isFree, headerBytes, slots, stateAt, FREE, RESERVED, Tiles, walk, offsetOf}
 use Rattle.rules.specs.Answers.{granted, refuse, notPool, sizeZero, noRoom}
 use Rattle.rules.specs.Stores.{createStores, needOf, fits, emptying, leastRest, reserveStores}
 use Rattle.rules.specs.Requests.{Does, reserve, verdict}
 use Rattle.laws.specs.Searches.{and-both, seek-split}
 use Rattle.laws.specs.Pools.{answerIs}
-use Rattle.walk.specs.Forms.{offsetOf}
 use Rattle.walk.specs.Scans.{offset-some, offset-inside}
 use Rattle.steps.specs.Acts.{Acts, acts-refused, acts-does, acts-ran}
 use Rattle.word.specs.declared.Power.{Power}

@@ -3,9 +3,10 @@
 use Prim.Native.Nat.{ℕ, zero, suc, _+_, _%_, _≤_}
 use mathlib.Core.Path.{_≡_}
 use mathlib.Core.Bool.{Bool, true, false, not, _||_}
+use mathlib.Core.Option.{Option, some, none}
 use mathlib.Core.List.{List, [], _∷_, map}
 use lib.Dec.{eqb, ltb}
-use Rattle.rules.specs.Lists.{those}
+use Rattle.rules.specs.Lists.{seek, those}
 use Rattle.rules.specs.Words.{Mem, Store, store, wordBytes}
 use Rattle.rules.specs.Pages.{clumpsAt, unit}
 
@@ -112,6 +113,18 @@ headsFrom (suc k) n m a = elim (ltb a n) [ true ↦ head m a ∷ headsFrom k n m
 
 unfoldable pub walk : ℕ → Mem → List Head
 walk n m = headsFrom n n m clumpsAt
+
+-- the clump that follows h on the walk, "the one at its offset plus nbytes", and the one that h follows
+abbrev pub nextOf : List Head → Head → Option Head
+nextOf hs h = seek (λ k. eqb (k .at) (endOf h)) hs
+
+abbrev pub beforeOf : List Head → Head → Option Head
+beforeOf hs h = seek (λ k. eqb (endOf k) (h .at)) hs
+
+-- the header offset of a clump, or a mark where there is none: 01's "the header offset found or an end mark"
+abbrev pub offsetOf : ℕ → Option Head → ℕ
+offsetOf mark none = mark
+offsetOf mark (some h) = h .at
 
 -- the clumps hs tile from a to b: each stands where the one before ends, and is a multiple of 64 and at least 128
 pub record Sits (a : ℕ) (h : Head) : Type 0 where

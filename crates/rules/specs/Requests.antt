@@ -1,9 +1,10 @@
 -- The verdict on each of the nine requests: its tests by rising number, then its stores (01, "What a request answers" and
--- "Stores and the fuse"); and what a request makes of an image. Total on any length, any words and any numbers. Assumes nothing.
+-- "Stores and the fuse"); what the finder answers (02, W7); and what a request makes of an image. Total on any length, any words and any
+-- numbers. Assumes nothing.
 use Prim.Native.Nat.{ℕ, _<_}
 use mathlib.Core.Path.{_≡_}
 use mathlib.Core.Bool.{Bool, true, cond, not}
-use mathlib.Core.Option.{Option, some, none}
+use mathlib.Core.Option.{Option, some, none, Option·map}
 use mathlib.Core.List.{List, [], _∷_}
 use lib.Dec.{eqb}
 use lib.ListN.{length, take}
@@ -14,7 +15,7 @@ use Rattle.rules.specs.declared.Request.the-variants.{Create, Reserve, O
 use Rattle.rules.specs.Lists.{seek}
 use Rattle.rules.specs.Words.{Image, Mem, Store, mem, carry, wordValues}
 use Rattle.rules.specs.Pages.{rightLength}
-use Rattle.rules.specs.Clumps.{Head, bodyOf, RESERVED, ACTIVE, hasState, isWaiting, isEmpty, slots, usedSlots, walk}
+use Rattle.rules.specs.Clumps.{Head, bodyOf, RESERVED, ACTIVE, hasState, isWaiting, isEmpty, slots, usedSlots, walk, beforeOf, offsetOf}
 use Rattle.rules.specs.Sound.{isValid, allValid}
 use Rattle.rules.specs.Answers.{Verdict, granted, refuse, test, ifSound, ifSettled, notPool, sizeZero, noRoom, noClump, wrongState, listFull, listEmpty, badTarget, storesOf, answerOf, totalsFor}
 use Rattle.rules.specs.Stores.{createStores, needOf, fits, reserveStores, listStores, withdrawStores, activateStores, freeStores, recoverStores}
@@ -34,6 +35,13 @@ finder hs offset = seek (λ h. eqb (bodyOf h) offset) hs
 abbrev pub found : Option Head → (Head → Verdict) → Verdict
 found none go = refuse noClump
 found (some h) go = go h
+
+-- W7: "The finder shall answer the header offset and that of the clump before it, or 0 for the first clump."
+abbrev pub belowOf : List Head → Head → ℕ
+belowOf hs h = offsetOf 0 (beforeOf hs h)
+
+abbrev pub finding : List Head → ℕ → Option (ℕ × ℕ)
+finding hs offset = Option·map (λ h. (h .at, belowOf hs h)) (finder hs offset)
 
 -- onactive and onfree on a clump: 7 unless the state is the one that is allowed, 8, 10
 abbrev pub listed : Bool → Option ℕ → ℕ → ℕ → ℕ → Verdict

@@ -4,6 +4,7 @@
 use Prim.Native.Nat.{ℕ}
 use mathlib.Core.Path.{_≡_, refl}
 use mathlib.Core.Bool.{true, false}
+use mathlib.Core.Option.{Option, some, none}
 use mathlib.Core.List.{List, [], _∷_, _++_, map}
 use lib.ListN.{replicate, getD}
 use Rattle.rules.specs.declared.Request.{Request}
@@ -14,7 +15,7 @@ use Rattle.rules.specs.Pages.{signatureLow, signatureHigh, rightLength}
 use Rattle.rules.specs.Clumps.{walk}
 use Rattle.rules.specs.Sound.{isValid}
 use Rattle.rules.specs.Answers.{storesOf, totalsFor}
-use Rattle.rules.specs.Requests.{verdict}
+use Rattle.rules.specs.Requests.{verdict, finding}
 use Rattle.rules.specs.Cases.{everyRule, Pool, poolOf, under, longest, answerIn, caseH, fresh}
 
 -- answer, place and fault of check
@@ -62,6 +63,10 @@ fused k =
 -- what a request says to flush, under a fuse
 abbrev pub flushed : ℕ → Pool → Request → ℕ × ℕ
 flushed k p q = let r = answerIn k p q in (r .«flush_from», r .«flush_to»)
+
+-- what the finder answers of the clump that has its body at an offset
+abbrev pub foundAt : Pool → ℕ → Option (ℕ × ℕ)
+foundAt p o = finding (walk (p .0) (p .1)) o
 
 abbrev pub Samples : Type 0
 Samples =
@@ -182,7 +187,11 @@ Samples =
     × (map (flushed longest between) (Check ∷ Reserve 0 ∷ Free 16384 ∷ Activate 16576 ∷ []) ≡ replicate 4 (0, 0))
     × ((flushed longest (listing 3 (8, 0, 0)) (Reserve 1) ∷ flushed longest broken (Reserve 1) ∷ flushed longest (16448, λ o. o) Create ∷ [])
     ≡ replicate 3 (0, 0))
+    -- W7, the finder: the header offset and that of the clump before it, whatever its state, 0 for the first clump; none at a header, in
+    -- a body, or behind the last clump
+    × (map (foundAt (poolOf ((128, 0) ∷ (256, 3) ∷ (192, 1) ∷ (128, 0) ∷ []) [])) (16448 ∷ 16576 ∷ 16832 ∷ 17024 ∷ 16384 ∷ 16512 ∷ 16640 ∷ 17152 ∷ [])
+    ≡ some (16384, 0) ∷ some (16512, 16384) ∷ some (16768, 16512) ∷ some (16960, 16768) ∷ none ∷ none ∷ none ∷ none ∷ [])
 
 samples : Samples
 unfolding everyRule
-samples = (refl, refl, refl, refl, refl, refl, refl, refl, refl, refl, refl, refl, refl, refl, refl, refl, refl, refl, refl, refl, refl, refl, refl, refl, refl, refl, refl, refl, refl, refl, refl, refl, refl, refl, refl, refl, refl, refl, refl, refl, refl, refl, refl, refl, refl, refl, refl, refl, refl, refl)
+samples = (refl, refl, refl, refl, refl, refl, refl, refl, refl, refl, refl, refl, refl, refl, refl, refl, refl, refl, refl, refl, refl, refl, refl, refl, refl, refl, refl, refl, refl, refl, refl, refl, refl, refl, refl, refl, refl, refl, refl, refl, refl, refl, refl, refl, refl, refl, refl, refl, refl, refl, refl)

@@ -4,11 +4,11 @@ use Prim.Native.Nat.{ℕ, _+_, _-_, _*_, _/_}
 use mathlib.Core.Bool.{Bool, cond, _&&_, _||_}
 use mathlib.Core.Option.{Option, some, none}
 use mathlib.Core.List.{List, [], _∷_, _++_, map}
-use lib.Dec.{eqb, leb}
+use lib.Dec.{leb}
 use Rattle.rules.specs.Lists.{seek, those}
 use Rattle.rules.specs.Words.{Mem, Store, store, wordBytes, zeros}
 use Rattle.rules.specs.Pages.{pageBytes, staticAt, headerAt, signatureLow, signatureHigh, signatureHighAt, totalAt, paddingAt, paddingWords, clumpsAt, unit}
-use Rattle.rules.specs.Clumps.{Head, headerBytes, stateAt, endOf, FREE, RESERVED, ACTIVATING, ACTIVE, FREEING, hasState, isFree, isPending, slots, valueAt, usedSlots, entries}
+use Rattle.rules.specs.Clumps.{Head, headerBytes, stateAt, FREE, RESERVED, ACTIVATING, ACTIVE, FREEING, hasState, isFree, isPending, slots, valueAt, usedSlots, entries, nextOf, beforeOf}
 use Rattle.rules.specs.Answers.{bytesOf}
 
 -- 0 to each of the target words
@@ -98,11 +98,15 @@ unfoldable pub dropStores : Mem → Head → List Store
 dropStores m h = cond (hasState ACTIVE h) (setState h FREEING ∷ finishFreeing m h) (setState h FREE ∷ [])
 
 -- the next clump, if it is FREE, and the one before, if it is
+abbrev pub ifFree : Option Head → Option Head
+ifFree none = none
+ifFree (some k) = cond (isFree k) (some k) none
+
 abbrev pub freeAfter : List Head → Head → Option Head
-freeAfter hs h = seek (λ k. isFree k && eqb (k .at) (endOf h)) hs
+freeAfter hs h = ifFree (nextOf hs h)
 
 abbrev pub freeBefore : List Head → Head → Option Head
-freeBefore hs h = seek (λ k. isFree k && eqb (endOf k) (h .at)) hs
+freeBefore hs h = ifFree (beforeOf hs h)
 
 -- "Then, if the next clump is FREE, nbytes = both; then, if the one before is FREE, its nbytes = all."
 abbrev pub joinBefore : Option Head → ℕ → List Store

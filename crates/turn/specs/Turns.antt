@@ -2,27 +2,28 @@
 -- Assumes nothing.
 use Prim.Native.Nat.{ℕ, _+_, _%_, _<_, _≤_}
 use mathlib.Core.Path.{_≡_, refl, sym, ap, ap₂, _∙_}
-use mathlib.Core.Bool.{Bool, true, false, cond, _&&_}
-use mathlib.Core.Option.{some, none}
+use mathlib.Core.Bool.{Bool, true, false, cond}
+use mathlib.Core.Option.{Option, some, none}
 use mathlib.Core.List.{List, [], _∷_, _++_}
 use native.Mathlib.Omega.{arith}
 use lib.Dec.{eqb, ltb}
 use lib.ListN.{length}
-use borrow.Author.Tests.{eq-eqb, eqb-true, eqb-false, lt-ltb, ltb-true, ltb-false}
-use Rattle.rules.specs.Lists.{seek}
+use borrow.Author.Tests.{eq-eqb, ne-eqb, eqb-true, eqb-false, lt-ltb, le-ltb, ltb-true}
 use Rattle.rules.specs.Words.{Image, Mem, Store, mem, store, wordBytes, wordValues}
-use Rattle.rules.specs.Pages.{clumpsAt}
-use Rattle.rules.specs.Clumps.{Head, head, endOf, isFree, isWaiting, hasState, stateAt, headerBytes, RESERVED, ACTIVATING, ACTIVE, FREEING, FREE, Tiles, walk}
+use Rattle.rules.specs.Clumps.{Head, head, endOf, isWaiting, hasState, stateAt, headerBytes, RESERVED, ACTIVATING, ACTIVE, FREEING, FREE, nextOf, beforeOf, offsetOf}
 use Rattle.rules.specs.Sound.{allValid}
 use Rattle.rules.specs.Answers.{granted, refuse, wrongState, badTarget}
-use Rattle.rules.specs.Stores.{finishActivating, finishFreeing, activateStores, dropStores, joinBefore, joinBoth, freeStores}
+use Rattle.rules.specs.Stores.{finishActivating, finishFreeing, activateStores, dropStores, ifFree, freeAfter, freeBefore, joinBefore, joinBoth, freeStores}
 use Rattle.rules.specs.Requests.{activate, mayDrop, free}
 use Rattle.rules.specs.Reading.{clumpsOf, Tiled}
-use Rattle.laws.specs.Searches.{and-both, seek-split}
+use Rattle.laws.specs.Searches.{seek-split}
 use Rattle.laws.specs.Walking.{seek-placed}
+use Rattle.laws.specs.Neighbours.{if-free, clumpAt, stands-inside, next-at, before-at}
+use Rattle.laws.specs.Lying.{Lies, placed-lies}
 use Rattle.page.specs.Forms.{listAt}
-use Rattle.walk.specs.Forms.{offsetOf, listValid}
-use Rattle.walk.specs.Scans.{offset-none, offset-some, offset-inside, list-valid}
+use Rattle.page.specs.declared.clump.Clump.{Clump}
+use Rattle.walk.specs.Forms.{listValid}
+use Rattle.walk.specs.Scans.{Finds, list-valid}
 use Rattle.rules.specs.declared.Answer.{Answer}
 use Rattle.word.specs.declared.Power.{Power}
 use Rattle.word.specs.Runs.{full, Ran, told, ran-then, ran-as}
@@ -37,25 +38,24 @@ dropOf h state l = cond (eqb state ACTIVE) (store (stateAt h) FREEING ∷ (assig
 abbrev pub storeIf : ℕ → ℕ → ℕ → List Store
 storeIf bytes at w = cond (eqb bytes 0) [] (store at w ∷ [])
 
--- nbytes at an offset, 0 at the end mark
-abbrev pub bytesAt : ℕ → Mem → ℕ → ℕ
-bytesAt n m at = cond (ltb at n) (m at) 0
+-- nbytes of a clump, 0 where there is none
+abbrev pub sizeOf : Option Head → ℕ
+sizeOf none = 0
+sizeOf (some k) = k .nbytes
 
--- a FREE clump that starts at an offset or, below it, ends there
-abbrev pub beside : Bool → ℕ → Head → Bool
-beside below at k = isFree k && eqb (cond below (endOf k) (k .at)) at
+-- nbytes of the clump that stands at an offset, if it is FREE
+abbrev pub freeBytes : ℕ → Mem → ℕ → ℕ
+freeBytes n m at = sizeOf (ifFree (clumpAt n m at))
 
--- the clump at h as the code has it, before it is freed
-pub record Turned (img : Image) (h state nbytes : ℕ) (l : List (List ℕ)) : Type 0 where
+-- the clump c at h, which has its body at the offset asked about, as the code has it before it is freed
+pub record Turned (img : Image) (offset h below : ℕ) (c : Clump) (l : List (List ℕ)) : Type 0 where
   pub tiles : Tiled img
-  pub even : h % wordBytes ≡ 0
-  pub size : nbytes ≡ mem img h
-  pub is : state ≡ mem img (stateAt h)
+  pub finds : Finds (length img) (mem img) offset h below
+  pub size : c .nbytes ≡ mem img h
+  pub is : c .state ≡ mem img (stateAt h)
   pub list : l ≡ listAt (mem img) h
-  pub header : h + headerBytes ≤ length img
-  pub room : h + nbytes ≤ length img
   pub small : length img < wordValues
-  pub valid : state ≡ ACTIVE → listValid (clumpsOf img) l ≡ true
+  pub valid : c .state ≡ ACTIVE → listValid (clumpsOf img) l ≡ true
 
 -- activate, a law for each way out
 module _ (m : Mem) (hs : List Head) (o : ℕ) (h : Head) where
@@ -94,112 +94,156 @@ module _ (m : Mem) (hs : List Head) (o : ℕ) (h : Head) where
 pub may-drop : (m : Mem) (hs : List Head) (h state : ℕ) (l : List (List ℕ)) → state ≡ m (stateAt h) → l ≡ listAt m h → cond (eqb state ACTIVE) (listValid hs l) true ≡ mayDrop m hs (head m h)
 may-drop m hs h state l e f = rw (e, list-valid m hs h l f)
 
--- the clump beside, by its offset: its bytes, or 0 where there is none
-module _ (n : ℕ) (m : Mem) (p : Head → Bool) (tiles : Tiles clumpsAt (walk n m) n) (r : ℕ) (e : r ≡ offsetOf n (seek p (walk n m))) where
-  pub beside-inside : r < n → (r % wordBytes ≡ 0) × (r + wordBytes ≤ n)
-  beside-inside l = let i = offset-inside n m p tiles r e l in omega arith
+-- the clumps beside, joined, by their bytes: where there is none there are 0, and every clump has some
+before-are : (y : Option Head) (at w : ℕ) → ((k : Head) → y ≡ some k → (k .at ≡ at) × (0 < k .nbytes)) → joinBefore y w ≡ storeIf (sizeOf y) at (sizeOf y + w)
+before-are none at w f = refl
+before-are (some k) at w f =
+    let x = f k refl in
+    rw (ne-eqb (k .nbytes) 0 (omega (arith, x .1))) (ap (λ (a : ℕ). store a (k .nbytes + w) ∷ []) (x .0))
 
-  pub beside-found : (bytesAt n m r ≡ 0 → ⊥) → r < n
-  beside-found h = go (ltb r n) refl h
-    where
-      go : (t : Bool) → ltb r n ≡ t → (cond t (m r) 0 ≡ 0 → ⊥) → r < n
-      go true q f = ltb-true r n q
-      go false q f = absurd (f refl)
+joins-are :
+    (x y : Option Head) (h : Head) (at : ℕ)
+    → ((k : Head) → x ≡ some k → 0 < k .nbytes)
+    → ((k : Head) → y ≡ some k → (k .at ≡ at) × (0 < k .nbytes))
+    → joinBoth x y h ≡ storeIf (sizeOf x) (h .at) (h .nbytes + sizeOf x) ++ storeIf (sizeOf y) at (sizeOf y + (h .nbytes + sizeOf x))
+joins-are none y h at f g = before-are y at (h .nbytes) g ∙ ap (λ (w : ℕ). storeIf (sizeOf y) at (sizeOf y + w)) (omega arith)
+joins-are (some k) y h at f g =
+    rw (ne-eqb (k .nbytes) 0 (omega (arith, f k refl)))
+    (ap (λ (st : List Store). store (h .at) (h .nbytes + k .nbytes) ∷ st) (before-are y at (h .nbytes + k .nbytes) g))
 
-  pub beside-none : bytesAt n m r ≡ 0 → seek p (walk n m) ≡ none
-  beside-none h = go (ltb r n) refl h
-    where
-      go : (t : Bool) → ltb r n ≡ t → cond t (m r) 0 ≡ 0 → seek p (walk n m) ≡ none
-      go true q f = let i = offset-inside n m p tiles r e (ltb-true r n q) in absurd (omega arith)
-      go false q f = offset-none n m p tiles r e (ltb-false r n q)
+size-room : (x : Option Head) (a b : ℕ) → a ≤ b → ((k : Head) → x ≡ some k → a + k .nbytes ≤ b) → a + sizeOf x ≤ b
+size-room none a b l f = omega arith
+size-room (some k) a b l f = f k refl
 
-  pub beside-some : (bytesAt n m r ≡ 0 → ⊥) → (seek p (walk n m) ≡ some (head m r)) × (bytesAt n m r ≡ m r)
-  beside-some h = let l = beside-found h in (offset-some n m p tiles r e l, rw (lt-ltb r n l))
+-- the bytes at the two marks, and those of a clump that stands at an offset, by its state
+module _ (n : ℕ) (m : Mem) (a : ℕ) where
+  pub bytes-below : a ≡ 0 → 0 ≡ freeBytes n m a
+  bytes-below e = rw (eq-eqb a 0 e)
 
--- the clumps beside, joined: next is the nbytes of the FREE clump that follows, under those of the one before, which stands at below
-module _ (img : Image) (h state nbytes : ℕ) (l : List (List ℕ)) (t : Turned img h state nbytes l) (after below : ℕ)
-    (a : after ≡ offsetOf (length img) (seek (beside false (h + nbytes)) (clumpsOf img)))
-    (b : below ≡ offsetOf (length img) (seek (beside true h) (clumpsOf img))) where
+  pub bytes-end : (a ≡ 0 → ⊥) → n ≤ a → 0 ≡ freeBytes n m a
+  bytes-end z l = rw (ne-eqb a 0 z, le-ltb a n l)
+
+  pub bytes-live : (a ≡ 0 → ⊥) → a < n → (m (stateAt a) ≡ FREE → ⊥) → 0 ≡ freeBytes n m a
+  bytes-live z l d = rw (ne-eqb a 0 z, lt-ltb a n l, ne-eqb (m (stateAt a)) FREE d)
+
+  pub bytes-free : (a ≡ 0 → ⊥) → a < n → m (stateAt a) ≡ FREE → m a ≡ freeBytes n m a
+  bytes-free z l e = rw (ne-eqb a 0 z, lt-ltb a n l, eq-eqb (m (stateAt a)) FREE e)
+
+-- and where there are bytes one stands
+free-stands : (n : ℕ) (m : Mem) (a : ℕ) → (freeBytes n m a ≡ 0 → ⊥) → (a ≡ 0 → ⊥) × (a < n)
+free-stands n m a f = go (eqb a 0) refl (ltb a n) refl f
+  where
+    go :
+        (b : Bool)
+        → eqb a 0 ≡ b
+        → (d : Bool)
+        → ltb a n ≡ d
+        → (sizeOf (ifFree (cond b none (cond d (some (head m a)) none))) ≡ 0 → ⊥)
+        → (a ≡ 0 → ⊥) × (a < n)
+    go true p d q f = absurd (f refl)
+    go false p true q f = (eqb-false a 0 p, ltb-true a n q)
+    go false p false q f = absurd (f refl)
+
+-- the clump c at h, which is freed: the next one is read at its end, the one before at `below`
+module _ (img : Image) (offset h below : ℕ) (c : Clump) (l : List (List ℕ)) (t : Turned img offset h below c l) where
+  abbrev this : Head
+  this = head (mem img) h
+
   abbrev next : ℕ
-  next = bytesAt (length img) (mem img) after
+  next = sizeOf (freeAfter (clumpsOf img) this)
 
   abbrev under : ℕ
-  under = bytesAt (length img) (mem img) below
+  under = sizeOf (freeBefore (clumpsOf img) this)
+
+  -- what was read are their bytes, if they are FREE
+  abbrev next-stands : nextOf (clumpsOf img) this ≡ clumpAt (length img) (mem img) (endOf this)
+  next-stands = next-at (length img) (mem img) (t .tiles) _ this (t .finds .found)
+
+  next-bytes : freeBytes (length img) (mem img) (h + c .nbytes) ≡ next
+  next-bytes = rw (t .size) (ap (λ (o : Option Head). sizeOf (ifFree o)) (sym next-stands))
+
+  abbrev below-stands : beforeOf (clumpsOf img) this ≡ clumpAt (length img) (mem img) below
+  below-stands = before-at (length img) (mem img) (t .tiles) this ∙ ap (clumpAt (length img) (mem img)) (sym (t .finds .under))
+
+  below-bytes : freeBytes (length img) (mem img) below ≡ under
+  below-bytes = ap (λ (o : Option Head). sizeOf (ifFree o)) (sym below-stands)
+
+  -- a clump that stands there has its header in the image
+  pub next-header : (h + c .nbytes ≡ 0 → ⊥) → h + c .nbytes < length img → ((h + c .nbytes) % wordBytes ≡ 0) × (h + c .nbytes + headerBytes ≤ length img)
+  next-header z u =
+      let e = t .size in
+      let i = stands-inside (length img) (mem img) (t .tiles) _ (endOf this) next-stands (omega arith) (omega arith) in
+      omega (arith, i .even, i .least, i .room)
+
+  pub below-header : (below ≡ 0 → ⊥) → below < length img → (below % wordBytes ≡ 0) × (below + headerBytes ≤ length img)
+  below-header z u =
+      let i = stands-inside (length img) (mem img) (t .tiles) _ below below-stands z u in
+      omega (arith, i .even, i .least, i .room)
+
+  pub below-word : (freeBytes (length img) (mem img) below ≡ 0 → ⊥) → (below % wordBytes ≡ 0) × (below + wordBytes ≤ length img)
+  below-word z =
+      let s = free-stands (length img) (mem img) below z in
+      let i = below-header (s .0) (s .1) in
+      (i .0, omega (arith, i .1))
+
+  -- the FREE ones, by where they stand
+  next-free : (k : Head) → freeAfter (clumpsOf img) this ≡ some k → Lies (length img) k × (k .at ≡ h + c .nbytes)
+  next-free k e =
+      let x = if-free (nextOf (clumpsOf img) this) k e .0 in (
+        placed-lies (length img) (mem img) k (t .small) (seek-placed (length img) (mem img) _ k (t .tiles) x),
+        eqb-true (k .at) (endOf this) (seek-split _ (clumpsOf img) k x .passes) ∙ ap (λ (w : ℕ). h + w) (sym (t .size)),
+      )
+
+  below-free : (k : Head) → freeBefore (clumpsOf img) this ≡ some k → Lies (length img) k × (endOf k ≡ h) × (k .at ≡ below)
+  below-free k e =
+      let x = if-free (beforeOf (clumpsOf img) this) k e .0 in (
+        placed-lies (length img) (mem img) k (t .small) (seek-placed (length img) (mem img) _ k (t .tiles) x),
+        eqb-true (endOf k) h (seek-split _ (clumpsOf img) k x .passes),
+        sym (t .finds .under ∙ ap (offsetOf 0) x),
+      )
 
   -- the sums stay within the image
-  pub next-room : nbytes + bytesAt (length img) (mem img) after ≤ length img
-  next-room = go (eqb next 0) refl
-    where
-      go : (c : Bool) → eqb next 0 ≡ c → nbytes + next ≤ length img
-      go true q = omega (arith, eqb-true next 0 q, t .room)
-      go false q =
-          let f = beside-some (length img) (mem img) (beside false (h + nbytes)) (t .tiles) after a (eqb-false next 0 q) in
-          let i = seek-placed (length img) (mem img) (beside false (h + nbytes)) (head (mem img) after) (t .tiles) (f .0) in
-          let p = seek-split (beside false (h + nbytes)) (clumpsOf img) (head (mem img) after) (f .0) .passes in
-          let e = eqb-true after (h + nbytes) (and-both (isFree (head (mem img) after)) _ p .1) in
-          omega (arith, i .inside .room, f .1)
+  pub next-room : h + c .nbytes + freeBytes (length img) (mem img) (h + c .nbytes) ≤ length img
+  next-room =
+      let e = t .size in
+      rw next-bytes
+      (size-room (freeAfter (clumpsOf img) this) (h + c .nbytes) (length img) (omega (arith, t .finds .inside .room)) (λ k q. let x = next-free k q in omega (arith, x .0 .room, x .1)))
 
-  pub under-room : bytesAt (length img) (mem img) below ≤ h
-  under-room = go (eqb under 0) refl
-    where
-      go : (c : Bool) → eqb under 0 ≡ c → under ≤ h
-      go true q = omega (arith, eqb-true under 0 q)
-      go false q =
-          let f = beside-some (length img) (mem img) (beside true h) (t .tiles) below b (eqb-false under 0 q) in
-          let p = seek-split (beside true h) (clumpsOf img) (head (mem img) below) (f .0) .passes in
-          let e = eqb-true (below + mem img below) h (and-both (isFree (head (mem img) below)) _ p .1) in
-          omega (arith, f .1)
+  pub below-room : freeBytes (length img) (mem img) below ≤ h
+  below-room =
+      rw below-bytes
+      (let r = size-room (freeBefore (clumpsOf img) this) 0 h (omega arith) (λ k q. let x = below-free k q in omega (arith, x .1)) in
+      omega arith)
 
-  below-are : (w : ℕ) → joinBefore (seek (beside true h) (clumpsOf img)) w ≡ storeIf under below (under + w)
-  below-are w = go (eqb under 0) refl
-    where
-      go : (c : Bool) → eqb under 0 ≡ c → joinBefore (seek (beside true h) (clumpsOf img)) w ≡ cond c [] (store below (under + w) ∷ [])
-      go true q = rw (beside-none (length img) (mem img) (beside true h) (t .tiles) below b (eqb-true under 0 q))
-      go false q =
-          let f = beside-some (length img) (mem img) (beside true h) (t .tiles) below b (eqb-false under 0 q) in
-          rw (f .0) (ap (λ (u : ℕ). store below (u + w) ∷ []) (sym (f .1)))
-
-  joins-are :
-      joinBoth (seek (beside false (h + nbytes)) (clumpsOf img)) (seek (beside true h) (clumpsOf img)) (head (mem img) h)
-      ≡ storeIf next h (nbytes + next) ++ storeIf under below (under + (nbytes + next))
-  joins-are = go (eqb next 0) refl
-    where
-      go :
-          (c : Bool)
-          → eqb next 0 ≡ c
-          → joinBoth (seek (beside false (h + nbytes)) (clumpsOf img)) (seek (beside true h) (clumpsOf img)) (head (mem img) h)
-          ≡ cond c [] (store h (nbytes + next) ∷ []) ++ storeIf under below (under + (nbytes + next))
-      go true q =
-          let z = eqb-true next 0 q in
-          let y : nbytes + next ≡ mem img h = omega (arith, t .size) in
-          rw (beside-none (length img) (mem img) (beside false (h + nbytes)) (t .tiles) after a z, y) (below-are (mem img h))
-      go false q =
-          let f = beside-some (length img) (mem img) (beside false (h + nbytes)) (t .tiles) after a (eqb-false next 0 q) in
-          let y : nbytes + next ≡ mem img h + mem img after = omega (arith, t .size, f .1) in
-          rw (f .0, y) (ap (λ (st : List Store). store h (mem img h + mem img after) ∷ st) (below-are (mem img h + mem img after)))
-
-  drops-are : dropOf h state l ≡ dropStores (mem img) (head (mem img) h)
+  drops-are : dropOf h (c .state) l ≡ dropStores (mem img) this
   unfolding dropStores finishFreeing
   drops-are = rw (t .is, t .list, assigns-are (mem img) h)
 
-  pub free-stores :
-      dropOf h state l ++ (storeIf next h (nbytes + next) ++ storeIf under below (under + (nbytes + next)))
-      ≡ freeStores (mem img) (clumpsOf img) (head (mem img) h)
+  free-stores :
+      dropOf h (c .state) l ++ (storeIf next h (c .nbytes + next) ++ storeIf under below (under + (c .nbytes + next)))
+      ≡ freeStores (mem img) (clumpsOf img) this
   unfolding freeStores
-  free-stores = ap₂ _++_ drops-are (sym joins-are ∙ ap (λ (w : ℕ). joinBoth (seek (beside false (h + w)) (clumpsOf img)) (seek (beside true h) (clumpsOf img)) (head (mem img) h)) (t .size))
+  free-stores =
+      rw (t .size)
+      (ap₂ _++_ drops-are
+      (sym (joins-are (freeAfter (clumpsOf img) this) (freeBefore (clumpsOf img) this) this below
+      (λ k q. let x = next-free k q in omega (arith, x .0 .least))
+      (λ k q. let x = below-free k q in (x .2, omega (arith, x .0 .least))))))
 
   pub release-acts :
-      {x y z : Image} {p q r u : Power} {w : Answer} (n k offset fuse : ℕ)
-      → n ≡ bytesAt (length img) (mem img) after
-      → k ≡ bytesAt (length img) (mem img) below
+      {x y z : Image} {p q r u : Power} {w : Answer} (n k fuse : ℕ)
+      → n ≡ freeBytes (length img) (mem img) (h + c .nbytes)
+      → k ≡ freeBytes (length img) (mem img) below
       → p ≡ full fuse
-      → Ran img p (dropOf h state l) x q
-      → Ran x q (storeIf n h (nbytes + n)) y r
-      → Ran y r (storeIf k below (k + (nbytes + n))) z u
+      → Ran img p (dropOf h (c .state) l) x q
+      → Ran x q (storeIf n h (c .nbytes + n)) y r
+      → Ran y r (storeIf k below (k + (c .nbytes + n))) z u
       → w ≡ told u offset
       → Acts img (granted offset (freeStores (mem img) (clumpsOf img) (head (mem img) h))) fuse z w
-  release-acts {u = u} n k offset fuse e f g a b c d =
-      acts-ran {q = u} fuse offset (ran-as _ _ (sym free-stores) (ran-then (rw g at a) (ran-then (rw e at b) (rw (f, e) at c)))) d
+  release-acts {u = u} n k fuse e f g a b d i =
+      let e′ = e ∙ next-bytes in
+      let f′ = f ∙ below-bytes in
+      acts-ran {q = u} fuse offset (ran-as _ _ (sym free-stores) (ran-then (rw g at a) (ran-then (rw e′ at b) (rw (f′, e′) at d)))) i
 
 -- an ACTIVE clump that may be dropped has a valid list
 pub drop-valid : (state : ℕ) (b : Bool) → cond (eqb state ACTIVE) b true ≡ true → state ≡ ACTIVE → b ≡ true

@@ -5,7 +5,6 @@ ghost use Prim.Native.Nat.{_+_, _%_, _≤_, _<_};
 ghost use lib.ListN.{length};
 ghost use lib.Dec.{eqb};
 ghost use Rattle.rules.specs.declared.Request.the-variants.{Activate, Free};
-ghost use Rattle.rules.specs.Lists.{seek};
 ghost use Rattle.rules.specs.Words.{wordBytes, wordValues, mem};
 ghost use Rattle.rules.specs.Clumps.{head, headerBytes, ACTIVE};
 ghost use Rattle.rules.specs.Answers.{granted};
@@ -13,11 +12,11 @@ ghost use Rattle.rules.specs.Stores.{freeStores};
 ghost use Rattle.rules.specs.Requests.{activate, free, Does};
 ghost use Rattle.rules.specs.Reading.{clumpsOf, Tiled};
 ghost use Rattle.word.specs.Runs.{Ran};
-ghost use Rattle.page.specs.Forms.{headOf, InImage};
-ghost use Rattle.walk.specs.Forms.{offsetOf, listValid};
+ghost use Rattle.page.specs.Forms.{InImage};
+ghost use Rattle.walk.specs.Forms.{listValid};
+ghost use Rattle.walk.specs.Scans.{Finds};
 ghost use Rattle.steps.specs.Acts.{Acts};
-ghost use Rattle.turn.specs.Turns.{dropOf, storeIf, bytesAt, beside, Turned};
-use page::CLUMPS_AT;
+ghost use Rattle.turn.specs.Turns.{dropOf, storeIf, freeBytes, Turned};
 use page::clump::Clump;
 use rules::Answer;
 use walk::Found;
@@ -51,7 +50,7 @@ pub fn activate(img: &mut [u8], offset: u64, fuse: u64) -> Answer
     if a.answer != Answer::DONE {
         return a;
     }
-    let Found::At(h) = walk::find(img, offset) else {
+    let Found::At(h, _) = walk::find(img, offset) else {
         return answer::refusal(Answer::NO_CLUMP);
     };
     activate_at(img, h, offset, fuse)
@@ -68,47 +67,22 @@ fn may_drop(img: &[u8], state: u64, l: [[u64; 2]; 3]) -> bool
     true
 }
 
-// Whether the clump c at h is FREE and starts at an offset or, to find the one below, ends there.
-fn is_beside(c: Clump, h: usize, at: usize, below: bool) -> bool
-    requires { ⌜ h + c .nbytes < wordValues ⌝ }
-    ensures { λ r. ⌜ r ≡ beside below at (headOf h c) ⌝ }
+// nbytes of the clump at an offset if it is FREE, else 0; 0 also where no clump stands: at 0, below the first, and behind the last.
+fn free_bytes(img: &[u8], at: usize) -> u64
+    requires { ⌜ ((at ≡ 0 → ⊥) → at < length (now img) → (at % wordBytes ≡ 0) × (at + headerBytes ≤ length (now img))) ⌝ }
+    ensures { λ r. ⌜ r ≡ freeBytes (length (now (img .entry))) (mem (now (img .entry))) at ⌝ }
 {
-    if c.state != Clump::FREE {
-        return false;
+    if at == 0 {
+        return 0;
     }
-    if below {
-        return h + c.nbytes as usize == at;
-    }
-    h == at
-}
-
-// The FREE clump that starts at an offset or, below it, ends there; or the image's length.
-fn free_beside(img: &[u8], at: usize, below: bool) -> usize
-    requires { ⌜ Tiled (now img) ⌝ }
-    ensures { λ r. ⌜ r ≡ offsetOf (length (now (img .entry))) (seek (beside below at) (clumpsOf (now (img .entry)))) ⌝ }
-{
-    let mut h: usize = CLUMPS_AT;
-    loop {
-        if img.len() <= h {
-            return img.len();
-        }
-        let c = Clump::read(img, h);
-        if is_beside(c, h, at, below) {
-            return h;
-        }
-        h += c.nbytes as usize;
-    }
-}
-
-// nbytes of the clump at an offset, 0 at the end mark.
-fn bytes_at(img: &[u8], at: usize) -> u64
-    requires { ⌜ (at < length (now img) → (at % wordBytes ≡ 0) × (at + wordBytes ≤ length (now img))) ⌝ }
-    ensures { λ r. ⌜ r ≡ bytesAt (length (now (img .entry))) (mem (now (img .entry))) at ⌝ }
-{
     if img.len() <= at {
         return 0;
     }
-    word::get(img, at)
+    let c = Clump::read(img, at);
+    if c.state != Clump::FREE {
+        return 0;
+    }
+    c.nbytes
 }
 
 // One store, if there is a clump to join.
@@ -138,36 +112,34 @@ fn drop_list(img: &mut [u8], p: Power, h: usize, state: u64, l: [[u64; 2]; 3]) -
     word::store(img, p, h + 8, Clump::FREE)
 }
 
-// The clump at h freed, and joined to the FREE clumps beside it.
+// The clump at h freed, and joined to the clumps beside it that are FREE: the next one, at its end, and the one below.
 fn release(
     img: &mut [u8],
     h: usize,
-    state: u64,
-    nbytes: u64,
+    below: usize,
+    c: Clump,
     l: [[u64; 2]; 3],
     offset: u64,
     fuse: u64,
 ) -> Answer
-    requires { ⌜ Turned (now img) h state nbytes l ⌝ }
+    requires { ⌜ Turned (now img) offset h below c l ⌝ }
     ensures { λ r. ⌜ Acts (now (img .entry)) (granted offset (freeStores (mem (now (img .entry))) (clumpsOf (now (img .entry))) (head (mem (now (img .entry))) h))) fuse (now (img .exit)) r ⌝ }
 {
-    let next = bytes_at(img, free_beside(img, h + nbytes as usize, false));
-    let below = free_beside(img, h, true);
-    let under = bytes_at(img, below);
-    let both = nbytes + next;
+    let next = free_bytes(img, h + c.nbytes as usize);
+    let under = free_bytes(img, below);
+    let both = c.nbytes + next;
     let all = under + both;
     let p = Power::new(fuse);
-    let p1 = drop_list(img, p, h, state, l);
+    let p1 = drop_list(img, p, h, c.state, l);
     let p2 = store_if(img, p1, next, h, both);
     let p3 = store_if(img, p2, under, below, all);
     answer::finish(p3, offset)
 }
 
-// Free, in the clump at h.
-fn free_at(img: &mut [u8], h: usize, offset: u64, fuse: u64) -> Answer
+// Free, in the clump at h, with the one at `below` before it.
+fn free_at(img: &mut [u8], h: usize, below: usize, offset: u64, fuse: u64) -> Answer
     requires { ⌜ Tiled (now img) ⌝ }
-    requires { ⌜ h + headerBytes ≤ length (now img) ⌝ }
-    requires { ⌜ (h % wordBytes ≡ 0) × (h + mem (now img) h ≤ length (now img)) ⌝ }
+    requires { ⌜ Finds (length (now img)) (mem (now img)) offset h below ⌝ }
     ensures { λ r. ⌜ Acts (now (img .entry)) (free (mem (now (img .entry))) (clumpsOf (now (img .entry))) offset (head (mem (now (img .entry))) h)) fuse (now (img .exit)) r ⌝ }
 {
     let c = Clump::read(img, h);
@@ -178,7 +150,7 @@ fn free_at(img: &mut [u8], h: usize, offset: u64, fuse: u64) -> Answer
     if !may_drop(img, c.state, l) {
         return answer::refusal(Answer::BAD_TARGET);
     }
-    release(img, h, c.state, c.nbytes, l, offset, fuse)
+    release(img, h, below, c, l, offset, fuse)
 }
 
 pub fn free(img: &mut [u8], offset: u64, fuse: u64) -> Answer
@@ -188,8 +160,8 @@ pub fn free(img: &mut [u8], offset: u64, fuse: u64) -> Answer
     if a.answer != Answer::DONE {
         return a;
     }
-    let Found::At(h) = walk::find(img, offset) else {
+    let Found::At(h, below) = walk::find(img, offset) else {
         return answer::refusal(Answer::NO_CLUMP);
     };
-    free_at(img, h, offset, fuse)
+    free_at(img, h, below, offset, fuse)
 }

@@ -11,15 +11,10 @@ use Rattle.page.specs.Forms.{targetOf}
 use Rattle.walk.specs.declared.Found.{Found}
 use Rattle.walk.specs.declared.Found.the-variants.{At, Nothing}
 
--- the finder's enum
-abbrev pub foundOf : Option Head → Found
+-- the finder's enum: the header offset, and that of the clump before it
+abbrev pub foundOf : Option (ℕ × ℕ) → Found
 foundOf none = Nothing
-foundOf (some h) = At (h .at)
-
--- "yielding the header offset found or an end mark": the end mark is the image's length
-abbrev pub offsetOf : ℕ → Option Head → ℕ
-offsetOf n none = n
-offsetOf n (some h) = h .at
+foundOf (some f) = At (f .0) (f .1)
 
 -- every used target of a list that was read is valid
 unfoldable pub listValid : List Head → List (List ℕ) → Bool

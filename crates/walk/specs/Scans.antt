@@ -1,10 +1,10 @@
 -- Laws of the searches over the clumps: a word in a part without a sum, what the offset or the enum of a search tells in clumps that
 -- tile, and the targets of a list that was read, one entry after the other. Assumes nothing.
 use Prim.Native.Nat.{ℕ, zero, suc, _+_, _-_, _<_, _≤_}
-use mathlib.Core.Path.{_≡_, refl, sym, ap, _∙_}
+use mathlib.Core.Path.{_≡_, refl, sym, ap, subst, _∙_}
 use mathlib.Core.List.{List, [], _∷_, map}
 use mathlib.Core.Bool.{Bool, true, false, cond, not, _&&_, _||_}
-use mathlib.Core.Option.{Option, some, none}
+use mathlib.Core.Option.{Option, some, none, Option·map}
 use native.Mathlib.Omega.{arith}
 use native.Mathlib.Numerals.{add-one}
 use lib.ListN.{length, getD, drop, drop-of-length-le}
@@ -14,14 +14,14 @@ use borrow.Author.Tests.{lt-leb, le-leb, ne-eqb}
 use Rattle.rules.specs.Lists.{seek, those, all}
 use Rattle.rules.specs.Words.{Mem}
 use Rattle.rules.specs.Pages.{clumpsAt}
-use Rattle.rules.specs.Clumps.{Head, head, bodyOf, slots, isUsed, Tiles, walk}
+use Rattle.rules.specs.Clumps.{Head, head, bodyOf, slots, isUsed, Tiles, walk, offsetOf}
 use Rattle.rules.specs.Sound.{lies, isValid, allValid}
-use Rattle.rules.specs.Requests.{finder}
+use Rattle.rules.specs.Requests.{finder, belowOf, finding}
 use Rattle.word.specs.Tests.{leb-same}
 use Rattle.laws.specs.Searches.{and-both}
 use Rattle.laws.specs.Walking.{Inside, seek-placed}
 use Rattle.laws.specs.Lying.{valid-in}
-use Rattle.walk.specs.Forms.{offsetOf, foundOf, listValid}
+use Rattle.walk.specs.Forms.{foundOf, listValid}
 use Rattle.page.specs.Forms.{entryAt, targetOf, listAt, InImage}
 use Rattle.walk.specs.declared.Found.{Found}
 use Rattle.walk.specs.declared.Found.the-variants.{At, Nothing}
@@ -60,26 +60,40 @@ module _ (n : ℕ) (m : Mem) (p : Head → Bool) (tiles : Tiles clumpsAt (walk n
   pub offset-inside : r < n → Inside n m r
   offset-inside l = seek-placed n m p (head m r) tiles (offset-some l) .inside
 
+-- what the finder answers, at the end of its walk and at the clump that it finds
+pub found-end : (hs : List Head) (body : ℕ) → none ≡ finder hs body → Nothing ≡ foundOf (finding hs body)
+found-end hs body e = ap (λ (o : Option Head). foundOf (Option·map (λ h. (h .at, belowOf hs h)) o)) e
+
+pub found-hit : (hs : List Head) (body : ℕ) (h : Head) (b : ℕ) → some h ≡ finder hs body → b ≡ belowOf hs h → At (h .at) b ≡ foundOf (finding hs body)
+found-hit hs body h b e f = ap (At (h .at)) f ∙ ap (λ (o : Option Head). foundOf (Option·map (λ k. (k .at, belowOf hs k)) o)) e
+
+-- the clump at h is the one that has its body there, and the one at b is below it
+pub record Finds (n : ℕ) (m : Mem) (body h b : ℕ) : Type 0 where
+  pub found : finder (walk n m) body ≡ some (head m h)
+  pub under : b ≡ belowOf (walk n m) (head m h)
+  pub inside : Inside n m h
+
 -- what the finder's enum tells, in clumps that tile
-module _ (n : ℕ) (m : Mem) (body : ℕ) (tiles : Tiles clumpsAt (walk n m) n) (r : Found) (e : r ≡ foundOf (finder (walk n m) body)) where
+module _ (n : ℕ) (m : Mem) (body : ℕ) (tiles : Tiles clumpsAt (walk n m) n) (r : Found) (e : r ≡ foundOf (finding (walk n m) body)) where
   pub found-none : r ≡ Nothing → finder (walk n m) body ≡ none
   found-none f = go (finder (walk n m) body) refl
     where
       go : (o : Option Head) → finder (walk n m) body ≡ o → finder (walk n m) body ≡ none
       go none q = q
-      go (some h) q = absurd (let z : _≡_ {A = ℕ} 0 1 = cc (ap foundOf q) in omega arith)
+      go (some h) q = absurd (let z : _≡_ {A = ℕ} 0 1 = cc (found-hit (walk n m) body h _ (sym q) refl) in omega arith)
 
-  pub found-some : (h : ℕ) → r ≡ At h → finder (walk n m) body ≡ some (head m h)
-  found-some h f = go (finder (walk n m) body) refl
+  pub found-some : (h b : ℕ) → r ≡ At h b → Finds n m body h b
+  found-some h b f = go (finder (walk n m) body) refl
     where
-      go : (o : Option Head) → finder (walk n m) body ≡ o → finder (walk n m) body ≡ some (head m h)
-      go none q = absurd (let z : _≡_ {A = ℕ} 0 1 = cc (ap foundOf q) in omega arith)
+      go : (o : Option Head) → finder (walk n m) body ≡ o → Finds n m body h b
+      go none q = absurd (let z : _≡_ {A = ℕ} 0 1 = cc (found-end (walk n m) body (sym q)) in omega arith)
       go (some k) q =
-          let a : k .at ≡ h = cc (ap foundOf q) in
-          q ∙ ap {B = Option Head} some (seek-placed n m (λ c. eqb (bodyOf c) body) k tiles q .head-is ∙ ap (head m) a)
-
-  pub found-inside : (h : ℕ) → r ≡ At h → Inside n m h
-  found-inside h f = seek-placed n m (λ c. eqb (bodyOf c) body) (head m h) tiles (found-some h f) .inside
+          let p = found-hit (walk n m) body k _ (sym q) refl in
+          let i = seek-placed n m (λ c. eqb (bodyOf c) body) k tiles q in
+          let a : k .at ≡ h = cc in
+          let d : belowOf (walk n m) k ≡ b = cc in
+          let s : k ≡ head m h = i .head-is ∙ ap (head m) a in
+          record { found = q ∙ ap {B = Option Head} some s; under = sym d ∙ ap (belowOf (walk n m)) s; inside = subst (Inside n m) a (i .inside) }
 
 -- the list that was read from a clump, one entry after the other
 valid-from : (m : Mem) (hs : List Head) (sl : List ℕ) → listValid hs (map (entryAt m) sl) ≡ all (λ s. isValid hs (m s)) (those (isUsed m) sl)

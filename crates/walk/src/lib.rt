@@ -7,37 +7,39 @@ ghost use lib.ListN.{length};
 ghost use lib.Dec.{eqb, leb};
 ghost use Rattle.rules.specs.Lists.{seek, any};
 ghost use Rattle.rules.specs.Words.{wordValues};
-ghost use Rattle.rules.specs.Clumps.{headerBytes};
+ghost use Rattle.rules.specs.Clumps.{headerBytes, offsetOf};
 ghost use Rattle.rules.specs.Sound.{lies, holdsWord, isValid};
 ghost use Rattle.rules.specs.Stores.{needOf, fits};
-ghost use Rattle.rules.specs.Requests.{finder};
+ghost use Rattle.rules.specs.Requests.{finding};
 ghost use Rattle.rules.specs.Reading.{clumpsOf, Tiled};
 ghost use Rattle.page.specs.Forms.{headOf};
-ghost use Rattle.walk.specs.Forms.{foundOf, offsetOf, listValid};
+ghost use Rattle.walk.specs.Forms.{foundOf, listValid};
 use page::CLUMPS_AT;
 use page::STATIC_AT;
 use page::STATIC_END;
 use page::clump::Clump;
 
-// The clump that has its body at an offset, by its header's offset.
+// The clump that has its body at an offset: the offset of its header, and that of the clump before it, or 0 for the first clump.
 pub enum Found {
-    At(usize),
+    At(usize, usize),
     Nothing,
 }
 
 pub fn find(img: &[u8], body: u64) -> Found
     requires { ⌜ Tiled (now img) ⌝ }
-    ensures { λ r. ⌜ r ≡ foundOf (finder (clumpsOf (now (img .entry))) body) ⌝ }
+    ensures { λ r. ⌜ r ≡ foundOf (finding (clumpsOf (now (img .entry))) body) ⌝ }
 {
+    let mut below: usize = 0;
     let mut h: usize = CLUMPS_AT;
     loop {
         if img.len() <= h {
             return Found::Nothing;
         }
         if h as u64 + Clump::HEADER == body {
-            return Found::At(h);
+            return Found::At(h, below);
         }
         let c = Clump::read(img, h);
+        below = h;
         h += c.nbytes as usize;
     }
 }

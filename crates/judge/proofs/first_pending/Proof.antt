@@ -7,9 +7,8 @@ use Rattle.rules.specs.Reading.{clumpsOf, Tiled}
 use Rattle.laws.specs.Walking.{Walking, walking-start, walking-end, walking-hit, walking-move, walking-inside}
 use mathlib.Core.Path.{ap}
 use Rattle.rules.specs.Lists.{seek}
-use Rattle.rules.specs.Clumps.{isPending}
+use Rattle.rules.specs.Clumps.{isPending, offsetOf}
 use Rattle.laws.specs.Searches.{seek-hit, seek-pass}
-use Rattle.walk.specs.Forms.{offsetOf}
 use Rattle.judge.proofs.first_pending.Statement.{statement}
 use Rattle.judge.proofs.first_pending.Tie as tie
 

@@ -4,7 +4,7 @@ use native.Mathlib.Omega.{arith}
 use mathlib.Core.Path.{refl}
 use Rattle.rules.specs.Words.{mem}
 use Rattle.rules.specs.Reading.{clumpsOf}
-use Rattle.walk.specs.Scans.{found-none, found-some, found-inside}
+use Rattle.walk.specs.Scans.{found-none, found-some}
 use Rattle.steps.specs.Acts.{stopped-does, settled-tiles, missing-does, found-does}
 use Rattle.rules.specs.declared.Request.the-variants.{Onfree}
 use Rattle.rules.specs.Clumps.{ACTIVE}
@@ -42,7 +42,7 @@ unfolding verdict
 returns-2 c = rw (c .refusal .ensures) (missing-does (c .before .before .before .before .before .before .before .before .before .before .args .img .now) _ (c .before .before .before .before .before .before .before .survey .ensures) (Onfree (c .before .before .before .before .before .before .before .before .before .before .args .offset) (c .before .before .before .before .before .before .before .before .before .before .args .target) (c .before .before .before .before .before .before .before .before .before .before .args .value)) _ _ (enlist (mem (c .before .before .before .before .before .before .before .before .before .before .args .img .now)) (clumpsOf (c .before .before .before .before .before .before .before .before .before .before .args .img .now)) ACTIVE (c .before .before .before .before .before .before .before .before .before .before .args .offset) (c .before .before .before .before .before .before .before .before .before .before .args .target) (c .before .before .before .before .before .before .before .before .before .before .args .value)) (c .before .before .before .before .before .if1 .left) refl (found-none _ _ _ (settled-tiles (c .before .before .before .before .before .before .before .before .before .before .args .img .now) _ (c .before .before .before .before .before .before .before .survey .ensures) (c .before .before .before .before .before .if1 .left)) _ (c .before .before .before .find .ensures) (c .before .enum-told .given .1)))
 
 enlist-at-requires : tie.Need-enlist-at-requires
-enlist-at-requires c κs = let i = found-inside _ _ _ (settled-tiles (c .before .before .before .before .before .before .before .before .before .before .before .args .img .now) _ (c .before .before .before .before .before .before .before .before .survey .ensures) (c .before .before .before .before .before .before .if1 .left)) _ (c .before .before .before .before .find .ensures) _ (c .before .before .h .given .1) in
+enlist-at-requires c κs = let i = found-some _ _ _ (settled-tiles (c .before .before .before .before .before .before .before .before .before .before .before .args .img .now) _ (c .before .before .before .before .before .before .before .before .survey .ensures) (c .before .before .before .before .before .before .if1 .left)) _ (c .before .before .before .before .find .ensures) _ _ (c .before .before .h .given .1) .inside in
     ((settled-tiles (c .before .before .before .before .before .before .before .before .before .before .before .args .img .now) _ (c .before .before .before .before .before .before .before .before .survey .ensures) (c .before .before .before .before .before .before .if1 .left)), (omega arith, omega arith))
 
 same-length-3 : tie.Need-same-length-3
@@ -50,7 +50,7 @@ same-length-3 c = search needs
 
 returns-3 : tie.Need-returns-3
 unfolding verdict
-returns-3 c = found-does (c .before .before .before .before .before .before .before .before .before .before .before .before .before .before .args .img .now) _ (c .before .before .before .before .before .before .before .before .before .before .before .survey .ensures) (Onfree (c .before .before .before .before .before .before .before .before .before .before .before .before .before .before .args .offset) (c .before .before .before .before .before .before .before .before .before .before .before .before .before .before .args .target) (c .before .before .before .before .before .before .before .before .before .before .before .before .before .before .args .value)) _ _ (enlist (mem (c .before .before .before .before .before .before .before .before .before .before .before .before .before .before .args .img .now)) (clumpsOf (c .before .before .before .before .before .before .before .before .before .before .before .before .before .before .args .img .now)) ACTIVE (c .before .before .before .before .before .before .before .before .before .before .before .before .before .before .args .offset) (c .before .before .before .before .before .before .before .before .before .before .before .before .before .before .args .target) (c .before .before .before .before .before .before .before .before .before .before .before .before .before .before .args .value)) (c .before .before .before .before .before .before .before .before .before .if1 .left) refl _ (found-some _ _ _ (settled-tiles (c .before .before .before .before .before .before .before .before .before .before .before .before .before .before .args .img .now) _ (c .before .before .before .before .before .before .before .before .before .before .before .survey .ensures) (c .before .before .before .before .before .before .before .before .before .if1 .left)) _ (c .before .before .before .before .before .before .before .find .ensures) _ (c .before .before .before .before .before .h .given .1)) (c .before .before .enlist-at .ensures)
+returns-3 c = found-does (c .before .before .before .before .before .before .before .before .before .before .before .before .before .before .args .img .now) _ (c .before .before .before .before .before .before .before .before .before .before .before .survey .ensures) (Onfree (c .before .before .before .before .before .before .before .before .before .before .before .before .before .before .args .offset) (c .before .before .before .before .before .before .before .before .before .before .before .before .before .before .args .target) (c .before .before .before .before .before .before .before .before .before .before .before .before .before .before .args .value)) _ _ (enlist (mem (c .before .before .before .before .before .before .before .before .before .before .before .before .before .before .args .img .now)) (clumpsOf (c .before .before .before .before .before .before .before .before .before .before .before .before .before .before .args .img .now)) ACTIVE (c .before .before .before .before .before .before .before .before .before .before .before .before .before .before .args .offset) (c .before .before .before .before .before .before .before .before .before .before .before .before .before .before .args .target) (c .before .before .before .before .before .before .before .before .before .before .before .before .before .before .args .value)) (c .before .before .before .before .before .before .before .before .before .if1 .left) refl _ (found-some _ _ _ (settled-tiles (c .before .before .before .before .before .before .before .before .before .before .before .before .before .before .args .img .now) _ (c .before .before .before .before .before .before .before .before .before .before .before .survey .ensures) (c .before .before .before .before .before .before .before .before .before .if1 .left)) _ (c .before .before .before .before .before .before .before .find .ensures) _ _ (c .before .before .before .before .before .h .given .1) .found) (c .before .before .enlist-at .ensures)
 
 pub onfree-spec : {M : Type 1} → statement M
 onfree-spec =

@@ -4,7 +4,7 @@ use native.Mathlib.Omega.{arith}
 use mathlib.Core.Path.{refl}
 use Rattle.rules.specs.Words.{mem}
 use Rattle.rules.specs.Reading.{clumpsOf}
-use Rattle.walk.specs.Scans.{found-none, found-some, found-inside}
+use Rattle.walk.specs.Scans.{found-none, found-some}
 use Rattle.steps.specs.Acts.{stopped-does, settled-tiles, missing-does, found-does}
 use Rattle.rules.specs.declared.Request.the-variants.{Withdraw}
 use borrow.Author.Needs.{needs}
@@ -41,7 +41,7 @@ unfolding verdict
 returns-2 c = rw (c .refusal .ensures) (missing-does (c .before .before .before .before .before .before .before .before .before .before .args .img .now) _ (c .before .before .before .before .before .before .before .survey .ensures) (Withdraw (c .before .before .before .before .before .before .before .before .before .before .args .offset)) _ _ (withdraw (mem (c .before .before .before .before .before .before .before .before .before .before .args .img .now)) (c .before .before .before .before .before .before .before .before .before .before .args .offset)) (c .before .before .before .before .before .if1 .left) refl (found-none _ _ _ (settled-tiles (c .before .before .before .before .before .before .before .before .before .before .args .img .now) _ (c .before .before .before .before .before .before .before .survey .ensures) (c .before .before .before .before .before .if1 .left)) _ (c .before .before .before .find .ensures) (c .before .enum-told .given .1)))
 
 withdraw-at-requires : tie.Need-withdraw-at-requires
-withdraw-at-requires c κs = let i = found-inside _ _ _ (settled-tiles (c .before .before .before .before .before .before .before .before .before .before .before .args .img .now) _ (c .before .before .before .before .before .before .before .before .survey .ensures) (c .before .before .before .before .before .before .if1 .left)) _ (c .before .before .before .before .find .ensures) _ (c .before .before .h .given .1) in
+withdraw-at-requires c κs = let i = found-some _ _ _ (settled-tiles (c .before .before .before .before .before .before .before .before .before .before .before .args .img .now) _ (c .before .before .before .before .before .before .before .before .survey .ensures) (c .before .before .before .before .before .before .if1 .left)) _ (c .before .before .before .before .find .ensures) _ _ (c .before .before .h .given .1) .inside in
     (omega arith, omega arith)
 
 same-length-3 : tie.Need-same-length-3
@@ -49,7 +49,7 @@ same-length-3 c = search needs
 
 returns-3 : tie.Need-returns-3
 unfolding verdict
-returns-3 c = found-does (c .before .before .before .before .before .before .before .before .before .before .before .before .before .before .args .img .now) _ (c .before .before .before .before .before .before .before .before .before .before .before .survey .ensures) (Withdraw (c .before .before .before .before .before .before .before .before .before .before .before .before .before .before .args .offset)) _ _ (withdraw (mem (c .before .before .before .before .before .before .before .before .before .before .before .before .before .before .args .img .now)) (c .before .before .before .before .before .before .before .before .before .before .before .before .before .before .args .offset)) (c .before .before .before .before .before .before .before .before .before .if1 .left) refl _ (found-some _ _ _ (settled-tiles (c .before .before .before .before .before .before .before .before .before .before .before .before .before .before .args .img .now) _ (c .before .before .before .before .before .before .before .before .before .before .before .survey .ensures) (c .before .before .before .before .before .before .before .before .before .if1 .left)) _ (c .before .before .before .before .before .before .before .find .ensures) _ (c .before .before .before .before .before .h .given .1)) (c .before .before .withdraw-at .ensures)
+returns-3 c = found-does (c .before .before .before .before .before .before .before .before .before .before .before .before .before .before .args .img .now) _ (c .before .before .before .before .before .before .before .before .before .before .before .survey .ensures) (Withdraw (c .before .before .before .before .before .before .before .before .before .before .before .before .before .before .args .offset)) _ _ (withdraw (mem (c .before .before .before .before .before .before .before .before .before .before .before .before .before .before .args .img .now)) (c .before .before .before .before .before .before .before .before .before .before .before .before .before .before .args .offset)) (c .before .before .before .before .before .before .before .before .before .if1 .left) refl _ (found-some _ _ _ (settled-tiles (c .before .before .before .before .before .before .before .before .before .before .before .before .before .before .args .img .now) _ (c .before .before .before .before .before .before .before .before .before .before .before .survey .ensures) (c .before .before .before .before .before .before .before .before .before .if1 .left)) _ (c .before .before .before .before .before .before .before .find .ensures) _ _ (c .before .before .before .before .before .h .given .1) .found) (c .before .before .withdraw-at .ensures)
 
 pub withdraw-spec : {M : Type 1} → statement M
 withdraw-spec =

@@ -1,10 +1,9 @@
 -- `free`: the survey, the finder, and the clump that it finds. Assumes nothing.
 use Rattle.rules.specs.Requests.{finder, found, verdict, free}
-use native.Mathlib.Omega.{arith}
 use mathlib.Core.Path.{refl}
 use Rattle.rules.specs.Words.{mem}
 use Rattle.rules.specs.Reading.{clumpsOf}
-use Rattle.walk.specs.Scans.{found-none, found-some, found-inside}
+use Rattle.walk.specs.Scans.{found-none, found-some}
 use Rattle.steps.specs.Acts.{stopped-does, settled-tiles, missing-does, found-does}
 use Rattle.rules.specs.declared.Request.the-variants.{Free}
 use borrow.Author.Needs.{needs}
@@ -41,15 +40,14 @@ unfolding verdict
 returns-2 c = rw (c .refusal .ensures) (missing-does (c .before .before .before .before .before .before .before .before .before .before .args .img .now) _ (c .before .before .before .before .before .before .before .survey .ensures) (Free (c .before .before .before .before .before .before .before .before .before .before .args .offset)) _ _ (free (mem (c .before .before .before .before .before .before .before .before .before .before .args .img .now)) (clumpsOf (c .before .before .before .before .before .before .before .before .before .before .args .img .now)) (c .before .before .before .before .before .before .before .before .before .before .args .offset)) (c .before .before .before .before .before .if1 .left) refl (found-none _ _ _ (settled-tiles (c .before .before .before .before .before .before .before .before .before .before .args .img .now) _ (c .before .before .before .before .before .before .before .survey .ensures) (c .before .before .before .before .before .if1 .left)) _ (c .before .before .before .find .ensures) (c .before .enum-told .given .1)))
 
 free-at-requires : tie.Need-free-at-requires
-free-at-requires c κs = let i = found-inside _ _ _ (settled-tiles (c .before .before .before .before .before .before .before .before .before .before .before .args .img .now) _ (c .before .before .before .before .before .before .before .before .survey .ensures) (c .before .before .before .before .before .before .if1 .left)) _ (c .before .before .before .before .find .ensures) _ (c .before .before .h .given .1) in
-    ((settled-tiles (c .before .before .before .before .before .before .before .before .before .before .before .args .img .now) _ (c .before .before .before .before .before .before .before .before .survey .ensures) (c .before .before .before .before .before .before .if1 .left)), (omega arith, (omega arith, i .room)))
+free-at-requires c κs = ((settled-tiles (c .before .before .before .before .before .before .before .before .before .before .before .args .img .now) _ (c .before .before .before .before .before .before .before .before .survey .ensures) (c .before .before .before .before .before .before .if1 .left)), found-some _ _ _ (settled-tiles (c .before .before .before .before .before .before .before .before .before .before .before .args .img .now) _ (c .before .before .before .before .before .before .before .before .survey .ensures) (c .before .before .before .before .before .before .if1 .left)) _ (c .before .before .before .before .find .ensures) _ _ (c .before .before .h .given .1))
 
 same-length-3 : tie.Need-same-length-3
 same-length-3 c = search needs
 
 returns-3 : tie.Need-returns-3
 unfolding verdict
-returns-3 c = found-does (c .before .before .before .before .before .before .before .before .before .before .before .before .before .before .args .img .now) _ (c .before .before .before .before .before .before .before .before .before .before .before .survey .ensures) (Free (c .before .before .before .before .before .before .before .before .before .before .before .before .before .before .args .offset)) _ _ (free (mem (c .before .before .before .before .before .before .before .before .before .before .before .before .before .before .args .img .now)) (clumpsOf (c .before .before .before .before .before .before .before .before .before .before .before .before .before .before .args .img .now)) (c .before .before .before .before .before .before .before .before .before .before .before .before .before .before .args .offset)) (c .before .before .before .before .before .before .before .before .before .if1 .left) refl _ (found-some _ _ _ (settled-tiles (c .before .before .before .before .before .before .before .before .before .before .before .before .before .before .args .img .now) _ (c .before .before .before .before .before .before .before .before .before .before .before .survey .ensures) (c .before .before .before .before .before .before .before .before .before .if1 .left)) _ (c .before .before .before .before .before .before .before .find .ensures) _ (c .before .before .before .before .before .h .given .1)) (c .before .before .free-at .ensures)
+returns-3 c = found-does (c .before .before .before .before .before .before .before .before .before .before .before .before .before .before .args .img .now) _ (c .before .before .before .before .before .before .before .before .before .before .before .survey .ensures) (Free (c .before .before .before .before .before .before .before .before .before .before .before .before .before .before .args .offset)) _ _ (free (mem (c .before .before .before .before .before .before .before .before .before .before .before .before .before .before .args .img .now)) (clumpsOf (c .before .before .before .before .before .before .before .before .before .before .before .before .before .before .args .img .now)) (c .before .before .before .before .before .before .before .before .before .before .before .before .before .before .args .offset)) (c .before .before .before .before .before .before .before .before .before .if1 .left) refl _ (found-some _ _ _ (settled-tiles (c .before .before .before .before .before .before .before .before .before .before .before .before .before .before .args .img .now) _ (c .before .before .before .before .before .before .before .before .before .before .before .survey .ensures) (c .before .before .before .before .before .before .before .before .before .if1 .left)) _ (c .before .before .before .before .before .before .before .find .ensures) _ _ (c .before .before .before .before .before .h .given .1) .found) (c .before .before .free-at .ensures)
 
 pub free-spec : {M : Type 1} → statement M
 free-spec =

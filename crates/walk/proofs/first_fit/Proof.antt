@@ -9,7 +9,7 @@ use mathlib.Core.Path.{ap}
 use Rattle.rules.specs.Lists.{seek}
 use Rattle.rules.specs.Stores.{needOf, fits}
 use Rattle.laws.specs.Searches.{seek-hit, seek-pass}
-use Rattle.walk.specs.Forms.{offsetOf}
+use Rattle.rules.specs.Clumps.{offsetOf}
 use Rattle.walk.proofs.first_fit.Statement.{statement}
 use Rattle.walk.proofs.first_fit.Tie as tie
 

@@ -60,18 +60,18 @@ module _ (n : ℕ) (m : Mem) (p : Head → Bool) (tiles : Tiles clumpsAt (walk n
   pub offset-inside : r < n → Inside n m r
   offset-inside l = seek-placed n m p (head m r) tiles (offset-some l) .inside
 
+-- the clump at h is the one that has its body there, and the one at b is below it
+pub record Finds (n : ℕ) (m : Mem) (body h b : ℕ) : Type 0 where
+  pub found : finder (walk n m) body ≡ some (head m h)
+  pub under : b ≡ belowOf (walk n m) (head m h)
+  pub inside : Inside n m h
+
 -- what the finder answers, at the end of its walk and at the clump that it finds
 pub found-end : (hs : List Head) (body : ℕ) → none ≡ finder hs body → Nothing ≡ foundOf (finding hs body)
 found-end hs body e = ap (λ (o : Option Head). foundOf (Option·map (λ h. (h .at, belowOf hs h)) o)) e
 
 pub found-hit : (hs : List Head) (body : ℕ) (h : Head) (b : ℕ) → some h ≡ finder hs body → b ≡ belowOf hs h → At (h .at) b ≡ foundOf (finding hs body)
 found-hit hs body h b e f = ap (At (h .at)) f ∙ ap (λ (o : Option Head). foundOf (Option·map (λ k. (k .at, belowOf hs k)) o)) e
-
--- the clump at h is the one that has its body there, and the one at b is below it
-pub record Finds (n : ℕ) (m : Mem) (body h b : ℕ) : Type 0 where
-  pub found : finder (walk n m) body ≡ some (head m h)
-  pub under : b ≡ belowOf (walk n m) (head m h)
-  pub inside : Inside n m h
 
 -- what the finder's enum tells, in clumps that tile
 module _ (n : ℕ) (m : Mem) (body : ℕ) (tiles : Tiles clumpsAt (walk n m) n) (r : Found) (e : r ≡ foundOf (finding (walk n m) body)) where

@@ -145,7 +145,7 @@ free-stands n m a f = go (eqb a 0) refl (ltb a n) refl f
     go false p false q f = absurd (f refl)
 
 -- the clump c at h, which is freed: the next one is read at its end, the one before at `below`
-module _ (img : Image) (offset h below : ℕ) (c : Clump) (l : List (List ℕ)) (t : Turned img offset h below c l) where
+module _ {img : Image} {offset h below : ℕ} {c : Clump} {l : List (List ℕ)} (t : Turned img offset h below c l) where
   abbrev this : Head
   this = head (mem img) h
 
@@ -202,18 +202,21 @@ module _ (img : Image) (offset h below : ℕ) (c : Clump) (l : List (List ℕ)) 
         sym (t .finds .under ∙ ap (offsetOf 0) x),
       )
 
-  -- the sums stay within the image
-  pub next-room : h + c .nbytes + freeBytes (length img) (mem img) (h + c .nbytes) ≤ length img
+  -- the sum of all three stays within the image
+  next-room : h + c .nbytes + freeBytes (length img) (mem img) (h + c .nbytes) ≤ length img
   next-room =
       let e = t .size in
       rw next-bytes
       (size-room (freeAfter (clumpsOf img) this) (h + c .nbytes) (length img) (omega (arith, t .finds .inside .room)) (λ k q. let x = next-free k q in omega (arith, x .0 .room, x .1)))
 
-  pub below-room : freeBytes (length img) (mem img) below ≤ h
+  below-room : freeBytes (length img) (mem img) below ≤ h
   below-room =
       rw below-bytes
       (let r = size-room (freeBefore (clumpsOf img) this) 0 h (omega arith) (λ k q. let x = below-free k q in omega (arith, x .1)) in
       omega arith)
+
+  pub sum-room : (n k : ℕ) → n ≡ freeBytes (length img) (mem img) (h + c .nbytes) → k ≡ freeBytes (length img) (mem img) below → k + (c .nbytes + n) ≤ length img
+  sum-room n k e f = omega (arith, next-room, below-room)
 
   drops-are : dropOf h (c .state) l ≡ dropStores (mem img) this
   unfolding dropStores finishFreeing

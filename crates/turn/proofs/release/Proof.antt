@@ -1,5 +1,5 @@
 -- `release`: the bytes of the clumps beside are read before the first store; then three runs, one after the other. Assumes nothing.
-use Rattle.turn.specs.Turns.{release-acts, next-header, below-header, below-word, next-room, below-room}
+use Rattle.turn.specs.Turns.{release-acts, next-header, below-header, below-word, sum-room}
 use Rattle.walk.specs.Scans.{list-in}
 use native.Mathlib.Omega.{arith}
 use mathlib.Core.Path.{_∙_}
@@ -11,28 +11,16 @@ add-free-bytes : tie.Need-add-free-bytes
 add-free-bytes c = search needs
 
 free-bytes-requires : tie.Need-free-bytes-requires
-free-bytes-requires c κs = let s = c .before .before in next-header (s .args .img .now) (s .args .offset) (s .args .h) (s .args .below) (s .args .c) (s .args .l) (s .pre)
+free-bytes-requires c κs = next-header (c .before .before .pre)
 
 free-bytes-requires-2 : tie.Need-free-bytes-requires-2
-free-bytes-requires-2 c κs = let s = c .before .before .before .before in below-header (s .args .img .now) (s .args .offset) (s .args .h) (s .args .below) (s .args .c) (s .args .l) (s .pre)
+free-bytes-requires-2 c κs = below-header (c .before .before .before .before .pre)
 
 add-both : tie.Need-add-both
-add-both c = let s = c .before .before .before .before .before .before in
-    let n = next-room (s .args .img .now) (s .args .offset) (s .args .h) (s .args .below) (s .args .c) (s .args .l) (s .pre) in
-    let u = below-room (s .args .img .now) (s .args .offset) (s .args .h) (s .args .below) (s .args .c) (s .args .l) (s .pre) in
-    let e₁ = c .before .before .before .free-bytes .ensures in
-    let e₂ = c .before .free-bytes2 .ensures in
-    let z = s .pre .small in
-    omega arith
+add-both c = let z = c .before .before .before .before .before .before .pre .small in let w = sum-room (c .before .before .before .before .before .before .pre) _ _ (c .before .before .before .free-bytes .ensures) (c .before .free-bytes2 .ensures) in omega arith
 
 add-all : tie.Need-add-all
-add-all c = let s = c .before .before .before .before .before .before in
-    let n = next-room (s .args .img .now) (s .args .offset) (s .args .h) (s .args .below) (s .args .c) (s .args .l) (s .pre) in
-    let u = below-room (s .args .img .now) (s .args .offset) (s .args .h) (s .args .below) (s .args .c) (s .args .l) (s .pre) in
-    let e₁ = c .before .before .before .free-bytes .ensures in
-    let e₂ = c .before .free-bytes2 .ensures in
-    let z = s .pre .small in
-    omega arith
+add-all c = let z = c .before .before .before .before .before .before .pre .small in let w = sum-room (c .before .before .before .before .before .before .pre) _ _ (c .before .before .before .free-bytes .ensures) (c .before .free-bytes2 .ensures) in omega arith
 
 new-requires : tie.Need-new-requires
 new-requires c κs = search needs
@@ -52,7 +40,7 @@ store-if-requires-2 : tie.Need-store-if-requires-2
 store-if-requires-2 c κs = let s = c .before .before .before .before .before .before .before .before .before .before .before .before .before .before .before .before in
     let d = c .before .before .before .before .before .before .before .drop-list .ensures in
     let e = c .before .before .before .store-if .ensures in
-    ((λ z. let i = below-word (s .args .img .now) (s .args .offset) (s .args .h) (s .args .below) (s .args .c) (s .args .l) (s .pre) (λ y. z (c .before .before .before .before .before .before .before .before .before .before .before .free-bytes2 .ensures ∙ y)) in (i .0, rw (e .long, d .long) (i .1))), rw (e .sum, d .sum, c .before .before .before .before .before .before .before .before .before .new .ensures) (omega (arith, s .fits .fuse)))
+    ((λ z. let i = below-word (s .pre) (λ y. z (c .before .before .before .before .before .before .before .before .before .before .before .free-bytes2 .ensures ∙ y)) in (i .0, rw (e .long, d .long) (i .1))), rw (e .sum, d .sum, c .before .before .before .before .before .before .before .before .before .new .ensures) (omega (arith, s .fits .fuse)))
 
 finish-requires : tie.Need-finish-requires
 finish-requires c κs = search needs
@@ -61,8 +49,7 @@ same-length : tie.Need-same-length
 same-length c = search needs
 
 returns : tie.Need-returns
-returns c = let s = c .before .before .before .before .before .before .before .before .before .before .before .before .before .before .before .before .before .before .before .before in
-    release-acts (s .args .img .now) (s .args .offset) (s .args .h) (s .args .below) (s .args .c) (s .args .l) (s .pre) _ _ _ (c .before .before .before .before .before .before .before .before .before .before .before .before .before .before .before .before .before .free-bytes .ensures) (c .before .before .before .before .before .before .before .before .before .before .before .before .before .before .before .free-bytes2 .ensures) (c .before .before .before .before .before .before .before .before .before .before .before .before .before .new .ensures) (c .before .before .before .before .before .before .before .before .before .before .before .drop-list .ensures) (c .before .before .before .before .before .before .before .store-if .ensures) (c .before .before .before .store-if2 .ensures) (c .finish .ensures)
+returns c = release-acts (c .before .before .before .before .before .before .before .before .before .before .before .before .before .before .before .before .before .before .before .before .pre) _ _ _ (c .before .before .before .before .before .before .before .before .before .before .before .before .before .before .before .before .before .free-bytes .ensures) (c .before .before .before .before .before .before .before .before .before .before .before .before .before .before .before .free-bytes2 .ensures) (c .before .before .before .before .before .before .before .before .before .before .before .before .before .new .ensures) (c .before .before .before .before .before .before .before .before .before .before .before .drop-list .ensures) (c .before .before .before .before .before .before .before .store-if .ensures) (c .before .before .before .store-if2 .ensures) (c .finish .ensures)
 
 pub release-spec : {M : Type 1} → statement M
 release-spec =

@@ -1,7 +1,7 @@
 -- The clump that follows another and the one that it follows. In a tiling these are the one right behind it and the one right before it,
 -- since no other begins where it ends or ends where it begins: by induction on the clumps. So the one before is the last that a walk has
 -- passed, and is read where the finder says; and the next one is read at the clump's end. Assumes nothing.
-use Prim.Native.Nat.{ℕ, _+_, _<_, _≤_}
+use Prim.Native.Nat.{ℕ, _+_, _%_, _<_, _≤_}
 use mathlib.Core.Path.{_≡_, refl, sym, ap, subst, _∙_}
 use mathlib.Core.Bool.{Bool, true, false, cond}
 use mathlib.Core.Option.{Option, some, none}
@@ -10,15 +10,15 @@ use native.Mathlib.Omega.{arith}
 use lib.Dec.{eqb, ltb}
 use borrow.Author.Tests.{eq-eqb, ne-eqb, eqb-true, lt-ltb, le-ltb}
 use Rattle.rules.specs.Lists.{seek, Each}
-use Rattle.rules.specs.Words.{Mem}
+use Rattle.rules.specs.Words.{Mem, wordBytes}
 use Rattle.rules.specs.Pages.{clumpsAt}
-use Rattle.rules.specs.Clumps.{Head, head, endOf, isFree, Tiles, walk, nextOf, beforeOf, offsetOf}
+use Rattle.rules.specs.Clumps.{Head, head, headerBytes, endOf, isFree, Tiles, walk, nextOf, beforeOf, offsetOf}
 use Rattle.rules.specs.Stores.{ifFree}
 use Rattle.rules.specs.Requests.{belowOf}
 use Rattle.laws.specs.Searches.{some-none, seek-hit, seek-pass, seek-nil, seek-split}
 use Rattle.laws.specs.Tilings.{tiles-le, tiles-split}
 use Rattle.laws.specs.Walks.{Rest, rest-start, rest-step}
-use Rattle.laws.specs.Walking.{Inside, seek-placed}
+use Rattle.laws.specs.Walking.{seek-placed}
 
 -- a clump that is FREE is the one that it is asked of
 pub if-free : (o : Option Head) (k : Head) → ifFree o ≡ some k → (o ≡ some k) × (isFree k ≡ true)
@@ -152,9 +152,11 @@ module _ (n : ℕ) (m : Mem) (tiles : Tiles clumpsAt (walk n m) n) where
       let z = x .inside in
       ap {B = Option Head} some (x .head-is) ∙ sym (clump-at n m (k .at) (omega (arith, x .low)) (omega (arith, z .least, z .room)))
 
-  -- and one that is found where one may stand is a clump of the walk
-  pub stands-inside : (p : Head → Bool) (a : ℕ) → seek p (walk n m) ≡ clumpAt n m a → (a ≡ 0 → ⊥) → a < n → Inside n m a
-  stands-inside p a e z u = seek-placed n m p (head m a) tiles (e ∙ clump-at n m a z u) .inside
+  -- and one that is found where one may stand has its header in the image
+  pub stands-header : (p : Head → Bool) (a : ℕ) → seek p (walk n m) ≡ clumpAt n m a → (a ≡ 0 → ⊥) → a < n → (a % wordBytes ≡ 0) × (a + headerBytes ≤ n)
+  stands-header p a e z u =
+      let i = seek-placed n m p (head m a) tiles (e ∙ clump-at n m a z u) .inside in
+      omega (arith, i .even, i .least, i .room)
 
   -- the one before a clump, by what the finder says
   pub before-at : (h : Head) → beforeOf (walk n m) h ≡ clumpAt n m (belowOf (walk n m) h)

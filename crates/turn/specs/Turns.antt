@@ -18,7 +18,7 @@ use Rattle.rules.specs.Requests.{activate, mayDrop, free}
 use Rattle.rules.specs.Reading.{clumpsOf, Tiled}
 use Rattle.laws.specs.Searches.{seek-split}
 use Rattle.laws.specs.Walking.{seek-placed}
-use Rattle.laws.specs.Neighbours.{if-free, clumpAt, stands-inside, next-at, before-at}
+use Rattle.laws.specs.Neighbours.{if-free, clumpAt, stands-header, next-at, before-at}
 use Rattle.laws.specs.Lying.{Lies, placed-lies}
 use Rattle.page.specs.Forms.{listAt}
 use Rattle.page.specs.declared.clump.Clump.{Clump}
@@ -170,15 +170,10 @@ module _ {img : Image} {offset h below : ℕ} {c : Clump} {l : List (List ℕ)} 
 
   -- a clump that stands there has its header in the image
   pub next-header : (h + c .nbytes ≡ 0 → ⊥) → h + c .nbytes < length img → ((h + c .nbytes) % wordBytes ≡ 0) × (h + c .nbytes + headerBytes ≤ length img)
-  next-header z u =
-      let e = t .size in
-      let i = stands-inside (length img) (mem img) (t .tiles) _ (endOf this) next-stands (omega arith) (omega arith) in
-      omega (arith, i .even, i .least, i .room)
+  next-header = rw (t .size) (stands-header (length img) (mem img) (t .tiles) _ (endOf this) next-stands)
 
   pub below-header : (below ≡ 0 → ⊥) → below < length img → (below % wordBytes ≡ 0) × (below + headerBytes ≤ length img)
-  below-header z u =
-      let i = stands-inside (length img) (mem img) (t .tiles) _ below below-stands z u in
-      omega (arith, i .even, i .least, i .room)
+  below-header = stands-header (length img) (mem img) (t .tiles) _ below below-stands
 
   pub below-word : (freeBytes (length img) (mem img) below ≡ 0 → ⊥) → (below % wordBytes ≡ 0) × (below + wordBytes ≤ length img)
   below-word z =

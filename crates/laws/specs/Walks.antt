@@ -8,7 +8,7 @@ use mathlib.Core.List.{List, [], _∷_}
 use native.Mathlib.Omega.{arith}
 use lib.Dec.{ltb, eqb}
 use borrow.Author.Tests.{lt-ltb, le-ltb, ltb-false, eqb-true, eq-eqb, ne-eqb, not-false}
-use Rattle.rules.specs.Lists.{seek}
+use Rattle.rules.specs.Lists.{seek, Each}
 use Rattle.rules.specs.Words.{Mem}
 use Rattle.rules.specs.Pages.{clumpsAt, unit}
 use Rattle.rules.specs.Clumps.{Head, head, stateAt, endOf, leastClump, FREEING, Sits, Tiles, headsFrom, walk}
@@ -41,6 +41,23 @@ rest-step {n} {a} {m} {hs} r l = go (r .steps) (r .lasts) (r .same)
     go : (k : ℕ) → n ≤ a + k → headsFrom k n m a ≡ hs → (t : List Head) × (hs ≡ head m a ∷ t) × (0 < m a → Rest n m (a + m a) t)
     go zero g e = absurd (omega arith)
     go (suc k) g e = (headsFrom k n m (a + m a), sym e ∙ rw (lt-ltb a n l, headsFrom), λ p. record { steps = k; lasts = omega arith; same = refl })
+
+-- it only goes up
+abbrev pub Low : Head → Type 0
+Low h = clumpsAt ≤ h .at
+
+heads-low : (k n a : ℕ) (m : Mem) → clumpsAt ≤ a → Each Low (headsFrom k n m a)
+unfolding headsFrom
+heads-low zero n a m l = tt
+heads-low (suc k) n a m l = go (ltb a n) (heads-low k n (a + m a) m (omega arith))
+  where
+    go : (t : Bool) → Each Low (headsFrom k n m (a + m a)) → Each Low (elim t [ true ↦ head m a ∷ headsFrom k n m (a + m a) | false ↦ [] ])
+    go true r = (l, r)
+    go false r = tt
+
+pub walk-low : (n : ℕ) (m : Mem) → Each Low (walk n m)
+unfolding walk
+walk-low n m = heads-low n n clumpsAt m (omega arith)
 
 -- a size without fault
 pub size-good : (n : ℕ) (h : Head) → sizeBad n h ≡ false → (leastClump ≤ h .nbytes) × (h .nbytes % unit ≡ 0) × (endOf h ≤ n)

@@ -5,6 +5,7 @@ use mathlib.Core.Path.{_≡_, refl, sym, ap, _∙_}
 use mathlib.Core.Bool.{true, false}
 use mathlib.Core.Option.{some, none}
 use mathlib.Core.List.{List, [], _∷_, _++_, map, append-assoc}
+use native.Mathlib.Omega.{arith}
 use lib.ListN.{length}
 use borrow.Author.Tests.{eq-eqb, ne-eqb}
 use Rattle.rules.specs.declared.Answer.{Answer}
@@ -12,7 +13,7 @@ use Rattle.rules.specs.declared.Request.the-variants.{Recover}
 use Rattle.rules.specs.Lists.{seek}
 use Rattle.rules.specs.Words.{Image, Mem, Store, mem, store}
 use Rattle.rules.specs.Pages.{clumpsAt}
-use Rattle.rules.specs.Clumps.{Head, head, isPending, stateAt, ACTIVATING, ACTIVE, FREE}
+use Rattle.rules.specs.Clumps.{Head, head, isPending, offsetOf, stateAt, ACTIVATING, ACTIVE, FREE}
 use Rattle.rules.specs.Sound.{targetFault}
 use Rattle.rules.specs.Answers.{granted, ifSound}
 use Rattle.rules.specs.Stores.{finishActivating, finishFreeing, finishing, releasing, released, runs, joining, recoverStores}
@@ -22,8 +23,10 @@ use Rattle.word.specs.declared.Power.{Power}
 use Rattle.word.specs.Runs.{full, Ran, told, ran-then, ran-as, ran-whole, ran-cut}
 use Rattle.laws.specs.Walks.{walk-reads, walk-is, no-faults}
 use Rattle.laws.specs.Pools.{Sound, pool-tiles}
-use Rattle.laws.specs.Mending.{settle, freed, map-released, tiles-settle, tiles-freed, finish-reads, release-reads, releasing-settle}
-use Rattle.page.specs.Forms.{listAt}
+use Rattle.laws.specs.Walking.{Inside}
+use Rattle.laws.specs.Mending.{targets-valid, settle, freed, map-released, tiles-settle, tiles-freed, finish-reads, release-reads, releasing-settle}
+use Rattle.page.specs.Forms.{listAt, InImage}
+use Rattle.walk.specs.Scans.{offset-none, offset-some, offset-inside, list-valid, list-in}
 use Rattle.steps.specs.Lists.{assignsOf, emptiesOf, assigns-are, empties-are}
 use Rattle.steps.specs.Acts.{acts-does, acts-ran}
 
@@ -40,6 +43,21 @@ module _ (m : Mem) (hs : List Head) where
     pub finish-frees : (s ≡ ACTIVATING → ⊥) → finishing m (seek isPending hs) ≡ assignsOf l ++ (store (stateAt h) FREE ∷ [])
     unfolding finishFreeing
     finish-frees z = rw (e, ne-eqb (m (stateAt h)) ACTIVATING (λ y. z (is ∙ y)), list, assigns-are m h)
+
+-- the unfinished clump, by its place; 0 is none
+module _ (img : Image) (h : ℕ) (tiled : Tiled img) (e : h ≡ offsetOf 0 (seek isPending (clumpsOf img))) where
+  pub pending-none : h ≡ 0 → finishing (mem img) (seek isPending (clumpsOf img)) ≡ []
+  pending-none z = finish-none (mem img) (clumpsOf img) (offset-none (length img) (mem img) isPending tiled 0 h e (λ l. omega arith))
+
+  module _ (f : h ≡ 0 → ⊥) where
+    pub pending-found : seek isPending (clumpsOf img) ≡ some (head (mem img) h)
+    pending-found = offset-some (length img) (mem img) isPending tiled 0 h e f
+
+    pub pending-inside : Inside (length img) (mem img) h
+    pending-inside = offset-inside (length img) (mem img) isPending tiled 0 h e f
+
+    pub pending-targets : targetFault (mem img) (clumpsOf img) ≡ none → (l : List (List ℕ)) → l ≡ listAt (mem img) h → InImage (length img) l
+    pending-targets t l g = list-in (length img) (mem img) l tiled (list-valid (mem img) (clumpsOf img) h l g ∙ targets-valid (mem img) (clumpsOf img) (head (mem img) h) pending-found t)
 
 module _ (img : Image) (s : Sound (length img) (mem img)) where
   tiled : Tiled img

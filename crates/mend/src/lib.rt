@@ -9,7 +9,7 @@ ghost use lib.Dec.{eqb};
 ghost use Rattle.rules.specs.declared.Request.the-variants.{Recover};
 ghost use Rattle.rules.specs.Lists.{seek};
 ghost use Rattle.rules.specs.Words.{wordBytes, wordValues, mem, store};
-ghost use Rattle.rules.specs.Clumps.{headerBytes, isPending, stateAt, RESERVED, FREE};
+ghost use Rattle.rules.specs.Clumps.{headerBytes, isPending, offsetOf, stateAt, RESERVED, FREE};
 ghost use Rattle.rules.specs.Sound.{targetFault};
 ghost use Rattle.rules.specs.Stores.{finishing, releasing, runs, joining};
 ghost use Rattle.rules.specs.Requests.{Does};
@@ -22,15 +22,15 @@ use page::clump::Clump;
 use rules::Answer;
 use word::Power;
 
-// "finish the ACTIVATING clump (assign, empty the list, ACTIVE) or the FREEING one (assign, FREE)"
-fn finish_pending(img: &mut [u8], p: Power) -> Power
+// "finish the ACTIVATING clump (assign, empty the list, ACTIVE) or the FREEING one (assign, FREE)": the one at h, or none where h is 0.
+fn finish_pending(img: &mut [u8], p: Power, h: usize) -> Power
     requires { ⌜ Tiled (now img) ⌝ }
+    requires { ⌜ h ≡ offsetOf 0 (seek isPending (clumpsOf (now img))) ⌝ }
     requires { ⌜ targetFault (mem (now img)) (clumpsOf (now img)) ≡ none ⌝ }
     requires { ⌜ p .made + p .left < wordValues ⌝ }
     ensures { λ r. ⌜ Ran (now (img .entry)) p (finishing (mem (now (img .entry))) (seek isPending (clumpsOf (now (img .entry))))) (now (img .exit)) r ⌝ }
 {
-    let h = judge::first_pending(img);
-    if img.len() <= h {
+    if h == 0 {
         return p;
     }
     let c = Clump::read(img, h);
@@ -144,12 +144,14 @@ fn join_runs(img: &mut [u8], p: Power) -> Power
 pub fn recover(img: &mut [u8], fuse: u64) -> Answer
     ensures { λ r. ⌜ Does (now (img .entry)) Recover fuse (now (img .exit)) r ⌝ }
 {
-    let a = survey::sound(img);
+    let v = survey::sound(img);
+    let a = v.answer;
     if a.answer != Answer::DONE {
         return a;
     }
+    let s = v.seen;
     let p = Power::new(fuse);
-    let p1 = finish_pending(img, p);
+    let p1 = finish_pending(img, p, s.first);
     if p1.cut {
         return answer::finish(p1, 0);
     }

@@ -2,7 +2,9 @@
 -- Assumes nothing.
 use Prim.Native.Nat.{ℕ, _+_, _%_, _<_, _≤_}
 use mathlib.Core.Path.{_≡_}
+use mathlib.Core.Bool.{Bool, true, _&&_, _||_}
 use mathlib.Core.List.{List, [], _∷_, map}
+use lib.Dec.{eqb}
 use lib.ListN.{getD}
 use Rattle.rules.specs.Words.{Mem, wordBytes}
 use Rattle.rules.specs.Clumps.{Head, slots, valueAt, targetAt}
@@ -25,6 +27,11 @@ valueOf e = getD e 1 0
 -- the on-list of the clump at a, entry by entry
 abbrev pub listAt : Mem → ℕ → List (List ℕ)
 listAt m a = map (entryAt m) (slots a)
+
+-- every used target of a list that was read passes the test
+unfoldable pub listPasses : (ℕ → Bool) → List (List ℕ) → Bool
+listPasses q [] = true
+listPasses q (e ∷ es) = (eqb (targetOf e) 0 || q (targetOf e)) && listPasses q es
 
 -- the used targets of a list lie in an image of n bytes, at offsets divisible by 8
 abbrev pub InImage : ℕ → List (List ℕ) → Type 0

@@ -4,6 +4,7 @@ use mathlib.Core.Path.{_≡_, sym, _∙_}
 use mathlib.Core.Bool.{Bool, true, false, not}
 use mathlib.Core.Option.{some, none}
 use mathlib.Core.List.{List, [], _∷_, _++_, append-assoc}
+use native.Mathlib.Omega.{arith}
 use lib.ListN.{length}
 use borrow.Author.Tests.{eq-eqb, ne-eqb, le-leb, lt-leb, leb-true, not-true, not-false}
 use Rattle.rules.specs.declared.Answer.{Answer}
@@ -63,8 +64,8 @@ pub fit-found :
     (n : ℕ) (m : Mem) (size r : ℕ)
     → n < wordValues → Tiles clumpsAt (walk n m) n → r ≡ offsetOf n (seek (fits (needOf size)) (walk n m)) → r < n → Fit n m (needOf size) r
 fit-found n m size r s t e l =
-    let i = offset-inside n m (fits (needOf size)) t r e l in
-    let p = seek-split (fits (needOf size)) (walk n m) (head m r) (offset-some n m (fits (needOf size)) t r e l) .passes in
+    let i = offset-inside n m (fits (needOf size)) t n r e (λ q. omega arith) in
+    let p = seek-split (fits (needOf size)) (walk n m) (head m r) (offset-some n m (fits (needOf size)) t n r e (λ q. omega arith)) .passes in
     record { even = i .even; enough = leb-true (needOf size) (m r) (and-both (isFree (head m r)) _ p .1); room = i .room; small = s }
 
 -- the stores of reserve, split or whole

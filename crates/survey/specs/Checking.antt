@@ -1,122 +1,71 @@
 -- Check's contract, and the laws of the survey, of the totals and of check. Assumes nothing.
-use Prim.Native.Nat.{ℕ, _+_, _%_, _<_, _≤_}
-use mathlib.Core.Path.{_≡_, refl, sym, ap, _∙_, subst}
-use mathlib.Core.Bool.{Bool, true, false, cond, not, _&&_, _||_, or-true}
+use Prim.Native.Nat.{ℕ}
+use mathlib.Core.Path.{_≡_, refl, sym, ap, _∙_}
+use mathlib.Core.Bool.{Bool, true, false, cond, not, _||_}
 use mathlib.Core.Option.{Option, some, none}
-use mathlib.Core.List.{List, [], _∷_}
+use mathlib.Core.List.{[]}
 use native.Mathlib.Omega.{arith}
-use native.Mathlib.Nat.{zero-add, add-zero}
+use lib.Dec.{eqb}
 use lib.ListN.{length}
+use borrow.Author.Tests.{eq-eqb, ne-eqb}
 use Rattle.rules.specs.declared.Answer.{Answer}
-use Rattle.rules.specs.declared.Totals.{Totals}
 use Rattle.rules.specs.declared.Request.the-variants.{Check}
-use Rattle.rules.specs.Lists.{those, any}
+use Rattle.rules.specs.Lists.{seek}
 use Rattle.rules.specs.Words.{Image, Mem, mem}
-use Rattle.rules.specs.Pages.{clumpsAt, unit, isPool}
-use Rattle.rules.specs.Clumps.{Head, head, hasState, isFree, isPending, Tiles, walk}
-use Rattle.rules.specs.Sound.{Fault, judge, startsFree, touching, unsettled}
-use Rattle.rules.specs.Answers.{granted, test, testFault, notPool, notSettled, ifSound, ifSettled, answerOf, bytesOf, totalOf, totalsFor}
+use Rattle.rules.specs.Pages.{isPool}
+use Rattle.rules.specs.Clumps.{isPending, offsetOf, walk}
+use Rattle.rules.specs.Sound.{Fault, judge, unsettled}
+use Rattle.rules.specs.Answers.{granted, test, testFault, notPool, notSettled, ifSound, ifSettled, answerOf, totalsFor}
 use Rattle.rules.specs.Requests.{verdict, answerOn, totalsOn}
 use Rattle.rules.specs.Reading.{clumpsOf}
-use Rattle.laws.specs.Walks.{rest-step}
-use Rattle.laws.specs.Walking.{Walking, walking-start, walking-end, walking-move}
-use Rattle.laws.specs.Pools.{answerIs, granted-none, Sound, check-sound, pool-tiles}
-use Rattle.laws.specs.Totals.{tiles-bytes}
+use Rattle.laws.specs.Pools.{answerIs, granted-none, Sound, check-sound}
 use Rattle.judge.specs.Forms.{judgedOf}
 use Rattle.judge.specs.declared.Judged.the-variants.{Fault as Broken}
+use Rattle.seen.specs.declared.Seen.{Seen}
+use Rattle.seen.specs.States.{nothing, seen}
+use Rattle.seen.specs.Told.{told-sound, told-first, told-unsettled, told-totals}
 use Rattle.survey.specs.declared.Checked.{Checked}
+use Rattle.survey.specs.declared.Surveyed.{Surveyed}
 
 -- check's answer, whatever the fuse, and its totals
 pub record Checks (img : Image) (r : Checked) : Type 0 where
   pub answered : (fuse : ℕ) → r .answer ≡ answerOn img Check fuse
   pub totalled : r .totals ≡ totalsOn img
 
--- answer 3: what is asked of the clumps that are left, where the one below is FREE or not
-abbrev pub unsettledFrom : Bool → List Head → Bool
-unsettledFrom b hs = any isPending hs || (b && startsFree hs || touching hs)
+-- the answer to the tests 1 and 2, whatever the fuse, and what is seen of the whole walk; nothing, where there is no pool
+pub record Surveys (img : Image) (r : Surveyed) : Type 0 where
+  pub answered : (fuse : ℕ) → r .answer ≡ answerOf fuse (ifSound (length img) (mem img) (granted 0 []))
+  pub seen-is : r .seen ≡ cond (isPool (length img) (mem img)) (seen (length img) (mem img) (clumpsOf img)) nothing
 
-pub unsettled-end : (b : Bool) → unsettledFrom b [] ≡ false
-unfolding any touching
-unsettled-end true = refl
-unsettled-end false = refl
-
-module _ (h : Head) (hs : List Head) (b : Bool) where
-  pub unsettled-pending : isPending h ≡ true → unsettledFrom b (h ∷ hs) ≡ true
-  unfolding any
-  unsettled-pending e = rw e
-
-  pub unsettled-touch : isPending h ≡ false → (b && isFree h) ≡ true → unsettledFrom b (h ∷ hs) ≡ true
-  unfolding any
-  unsettled-touch e t = rw (e, t, or-true)
-
-  pub unsettled-pass : isPending h ≡ false → (b && isFree h) ≡ false → unsettledFrom b (h ∷ hs) ≡ unsettledFrom (isFree h) hs
-  unfolding any touching
-  unsettled-pass e t = rw (e, t)
-
--- the total of a state, a clump after the other
-pub total-cons : (s : ℕ) (h : Head) (hs : List Head) → totalOf s (h ∷ hs) ≡ cond (hasState s h) (h .nbytes) 0 + totalOf s hs
-unfolding those bytesOf
-total-cons s h hs = go (hasState s h)
-  where
-    go : (t : Bool) → bytesOf (cond t (h ∷ those (hasState s) hs) (those (hasState s) hs)) ≡ cond t (h .nbytes) 0 + totalOf s hs
-    go true = refl
-    go false = omega arith
-
-total-least : (s : ℕ) (hs : List Head) → totalOf s hs ≤ bytesOf hs
-unfolding bytesOf those
-total-least s [] = omega arith
-total-least s (h ∷ hs) = go (hasState s h) (total-least s hs)
-  where
-    go : (t : Bool) → totalOf s hs ≤ bytesOf hs → bytesOf (cond t (h ∷ those (hasState s) hs) (those (hasState s) hs)) ≤ h .nbytes + bytesOf hs
-    go true l = omega arith
-    go false l = omega arith
-
--- the sum so far and the next clump's share stay within the image
-pub total-room :
-    (n : ℕ) (m : Mem) (s sum h : ℕ)
-    → Tiles clumpsAt (walk n m) n
-    → Walking (λ hs. sum + totalOf s hs) n m h (totalOf s (walk n m))
-    → h < n
-    → sum + cond (hasState s (head m h)) (m h) 0 ≤ n
-total-room n m s sum h t w l =
-    let r = rest-step (w .from) l in
-    let e : sum + totalOf s (head m h ∷ r .0) ≡ totalOf s (walk n m) = ap (λ (hs : List Head). sum + totalOf s hs) (sym (r .1)) ∙ w .same in
-    omega (arith, total-cons s (head m h) (r .0), total-least s (walk n m), tiles-bytes clumpsAt n (walk n m) t)
-
--- the walk of a total: at its start, at its end, and past a clump whose share is k
-module _ (n : ℕ) (m : Mem) (s : ℕ) where
-  pub total-start : Walking (λ hs. 0 + totalOf s hs) n m clumpsAt (totalOf s (walk n m))
-  total-start = subst (Walking (λ hs. 0 + totalOf s hs) n m clumpsAt) (zero-add (totalOf s (walk n m))) (walking-start (λ hs. 0 + totalOf s hs) n m)
-
-  module _ (sum h : ℕ) (w : Walking (λ hs. sum + totalOf s hs) n m h (totalOf s (walk n m))) where
-    pub total-end : n ≤ h → sum ≡ totalOf s (walk n m)
-    unfolding those bytesOf
-    total-end l = sym (add-zero sum) ∙ walking-end w l
-
-    pub total-move : h < n → 0 < m h → m h % unit ≡ 0 → (k : ℕ) → k ≡ cond (hasState s (head m h)) (m h) 0 → Walking (λ hs. sum + k + totalOf s hs) n m (h + m h) (totalOf s (walk n m))
-    total-move l p u k e = walking-move w l p u (λ hs. sum + k + totalOf s hs) (λ t. rw e (omega (arith, total-cons s (head m h) t)))
-
--- the tests 1 and 2
-module _ (n : ℕ) (m : Mem) where
-  pub sound-no-pool : isPool n m ≡ false → (fuse : ℕ) → answerIs 1 0 0 ≡ answerOf fuse (ifSound n m (granted 0 []))
+-- the tests 1 and 2, a law for each way out
+module _ (img : Image) (a : Answer) (s : Seen) where
+  pub surveys-no-pool : isPool (length img) (mem img) ≡ false → a ≡ answerIs 1 0 0 → s ≡ nothing → Surveys img (record { answer = a; seen = s })
   unfolding answerOf ifSound
-  sound-no-pool e fuse = rw e
+  surveys-no-pool p e f = record { answered = λ fuse. rw (e, p); seen-is = rw p f }
 
-  module _ (pool : isPool n m ≡ true) where
-    pub sound-fault : (p k : ℕ) → Broken p k ≡ judgedOf (judge n m) → (fuse : ℕ) → answerIs 2 p k ≡ answerOf fuse (ifSound n m (granted 0 []))
+  module _ (pool : isPool (length img) (mem img) ≡ true) (sees : s ≡ seen (length img) (mem img) (clumpsOf img)) where
+    pub surveys-fault : (p k : ℕ) → Broken p k ≡ judgedOf (judge (length img) (mem img)) → a ≡ answerIs 2 p k → Surveys img (record { answer = a; seen = s })
     unfolding answerOf ifSound
-    sound-fault p k e fuse = rw pool (go (judge n m) e)
+    surveys-fault p k e f = record { answered = λ fuse. rw (f, pool) (go (judge (length img) (mem img)) e fuse); seen-is = rw pool sees }
       where
-        go : (o : Option Fault) → Broken p k ≡ judgedOf o → answerIs 2 p k ≡ answerOf fuse (testFault o (granted 0 []))
-        go none f = absurd (let z : _≡_ {A = ℕ} 0 1 = cc in omega arith)
-        go (some x) f =
+        go : (o : Option Fault) → Broken p k ≡ judgedOf o → (fuse : ℕ) → answerIs 2 p k ≡ answerOf fuse (testFault o (granted 0 []))
+        go none f fuse = absurd (let z : _≡_ {A = ℕ} 0 1 = cc in omega arith)
+        go (some x) f fuse =
             let a : p ≡ x .place = (cc) in
             let b : k ≡ x .number = (cc) in
             rw (a, b)
 
-    pub sound-done : judge n m ≡ none → (fuse : ℕ) → answerIs 0 0 0 ≡ answerOf fuse (ifSound n m (granted 0 []))
+    pub surveys-done : judge (length img) (mem img) ≡ none → a ≡ answerIs 0 0 0 → Surveys img (record { answer = a; seen = s })
     unfolding ifSound
-    sound-done e fuse = rw (pool, e) (granted-none fuse)
+    surveys-done e f = record { answered = λ fuse. rw (f, pool, e) (granted-none fuse); seen-is = rw pool sees }
+
+-- whether the state is unsettled: an unfinished clump, or none
+module _ (s : Seen) where
+  pub unsettled-pending : (s .first ≡ 0 → ⊥) → true ≡ (not (eqb (s .first) 0) || s .touched)
+  unsettled-pending f = rw (ne-eqb (s .first) 0 f)
+
+  pub unsettled-touched : s .first ≡ 0 → s .touched ≡ (not (eqb (s .first) 0) || s .touched)
+  unsettled-touched e = rw (eq-eqb (s .first) 0 e)
 
 -- the tests 1, 2 and 3, by the answer to the first two
 module _ (n : ℕ) (m : Mem) (r : Answer) (e : (fuse : ℕ) → r ≡ answerOf fuse (ifSound n m (granted 0 []))) where
@@ -143,27 +92,42 @@ module _ (n : ℕ) (m : Mem) (r : Answer) (e : (fuse : ℕ) → r ≡ answerOf f
   unfolding ifSettled
   survey-settled z u fuse = rw u (e fuse)
 
-  pub survey-tiles : r .answer ≡ 0 → Tiles clumpsAt (walk n m) n
-  survey-tiles z = pool-tiles n m (survey-sound z)
+-- the state, where the answer is 0
+module _ {img : Image} {r : Surveyed} (v : Surveys img r) (z : r .answer .answer ≡ 0) where
+  pub surveyed-sound : Sound (length img) (mem img)
+  surveyed-sound = survey-sound (length img) (mem img) (r .answer) (v .answered) z
+
+  pub surveyed-seen : r .seen ≡ seen (length img) (mem img) (clumpsOf img)
+  surveyed-seen = v .seen-is ∙ rw (surveyed-sound .pool)
+
+  pub surveyed-fault : r .seen .fault ≡ 0
+  surveyed-fault = told-sound (length img) (mem img) (r .seen) surveyed-seen (surveyed-sound .sound)
+
+  -- the unfinished clump, 0 for none
+  pub surveyed-first : r .seen .first ≡ offsetOf 0 (seek isPending (clumpsOf img))
+  surveyed-first = told-first (length img) (mem img) (r .seen) surveyed-seen surveyed-fault
+
+  pub surveyed-unsettled : unsettled (clumpsOf img) ≡ (not (eqb (r .seen .first) 0) || r .seen .touched)
+  surveyed-unsettled = told-unsettled (length img) (mem img) (r .seen) surveyed-seen surveyed-fault
 
 -- check, refused and accepted
-module _ (img : Image) (r : Answer) (e : (fuse : ℕ) → r ≡ answerOf fuse (ifSound (length img) (mem img) (granted 0 []))) where
+module _ {img : Image} {r : Surveyed} (v : Surveys img r) where
   pub checks-refused :
-      (r .answer ≡ 0 → ⊥)
-      → Checks img (record { answer = r; totals = record { free = 0; reserved = 0; activating = 0; active = 0; freeing = 0 } })
+      (r .answer .answer ≡ 0 → ⊥)
+      → Checks img (record { answer = r .answer; totals = record { free = 0; reserved = 0; activating = 0; active = 0; freeing = 0 } })
   unfolding verdict ifSound
-  checks-refused z = record { answered = e; totalled = go (isPool (length img) (mem img)) (judge (length img) (mem img)) (e 0) }
+  checks-refused z = record { answered = v .answered; totalled = go (isPool (length img) (mem img)) (judge (length img) (mem img)) (v .answered 0) }
     where
       go :
           (t : Bool) (o : Option Fault)
-          → r ≡ answerOf 0 (test (not t) notPool (testFault o (granted 0 [])))
+          → r .answer ≡ answerOf 0 (test (not t) notPool (testFault o (granted 0 [])))
           → record { free = 0; reserved = 0; activating = 0; active = 0; freeing = 0 } ≡ totalsFor (test (not t) notPool (testFault o (granted 0 []))) (clumpsOf img)
       go true none f = absurd (z (ap (λ (a : Answer). a .answer) (f ∙ sym (granted-none 0))))
       go true (some x) f = refl
       go false o f = refl
 
-  pub checks-done : r .answer ≡ 0 → (t : Totals) → t ≡ totalsFor (granted 0 []) (clumpsOf img) → Checks img (record { answer = r; totals = t })
+  pub checks-done : r .answer .answer ≡ 0 → Checks img (record { answer = r .answer; totals = r .seen .totals })
   unfolding verdict ifSound
-  checks-done z t f =
-      let s = survey-sound (length img) (mem img) r e z in
-      record { answered = e; totalled = rw (s .pool, s .sound) f }
+  checks-done z =
+      let s = surveyed-sound v z in
+      record { answered = v .answered; totalled = rw (s .pool, s .sound) (told-totals (length img) (mem img) (r .seen) (surveyed-seen v z) (surveyed-fault v z)) }

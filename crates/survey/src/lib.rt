@@ -1,103 +1,68 @@
-// The survey that every request begins with, and the public request check. Both take any bytes.
+// The survey that every request begins with, and the public request check. Both take any bytes, and walk over the clumps once.
 ghost use mathlib.Core.Path.{_≡_};
-ghost use mathlib.Core.Bool.{cond, _&&_};
+ghost use mathlib.Core.Bool.{not, _||_};
 ghost use mathlib.Core.List.{[]};
 ghost use Prim.Native.Nat.{ℕ};
 ghost use lib.ListN.{length};
 ghost use lib.Dec.{eqb};
 ghost use Rattle.rules.specs.Words.{mem};
-ghost use Rattle.rules.specs.Sound.{unsettled};
-ghost use Rattle.rules.specs.Answers.{granted, ifSound, ifSettled, answerOf, totalOf};
-ghost use Rattle.rules.specs.Reading.{clumpsOf, Tiled};
-ghost use Rattle.survey.specs.Checking.{Checks};
+ghost use Rattle.rules.specs.Answers.{granted, ifSettled, answerOf};
+ghost use Rattle.survey.specs.Checking.{Surveys, Checks};
 use judge::Judged;
-use page::CLUMPS_AT;
-use page::clump::Clump;
 use rules::Answer;
 use rules::Totals;
+use seen::Seen;
 
-fn both(a: bool, b: bool) -> bool
-    ensures { λ r. ⌜ r ≡ (a && b) ⌝ }
+// The answer to the tests 1 and 2, and what the walk over the clumps has seen.
+pub struct Surveyed {
+    pub answer: Answer,
+    pub seen: Seen,
+}
+
+// The tests 1 and 2: the refusal, or answer 0. Of what is no pool nothing is seen.
+pub fn sound(img: &[u8]) -> Surveyed
+    ensures { λ r. ⌜ Surveys (now (img .entry)) r ⌝ }
 {
-    if a {
-        return b;
+    if !page::is_pool(img) {
+        return Surveyed {
+            answer: answer::unstored(Answer::NOT_A_POOL, 0, 0),
+            seen: seen::start(),
+        };
     }
-    false
+    let s = judge::see(img);
+    let j = judge::judge(img, s);
+    let Judged::Fault { place, fault } = j else {
+        return Surveyed {
+            answer: answer::unstored(Answer::DONE, 0, 0),
+            seen: s,
+        };
+    };
+    Surveyed {
+        answer: answer::unstored(Answer::NOT_SOUND, place, fault),
+        seen: s,
+    }
 }
 
 // Whether a clump is unfinished or two FREE clumps touch.
-fn is_unsettled(img: &[u8]) -> bool
-    requires { ⌜ Tiled (now img) ⌝ }
-    ensures { λ r. ⌜ r ≡ unsettled (clumpsOf (now (img .entry))) ⌝ }
+fn is_unsettled(s: Seen) -> bool
+    ensures { λ r. ⌜ r ≡ (not (eqb (s .first) 0) || s .touched) ⌝ }
 {
-    let mut h: usize = CLUMPS_AT;
-    let mut below = false;
-    loop {
-        if img.len() <= h {
-            return false;
-        }
-        let c = Clump::read(img, h);
-        if judge::pending(c.state) {
-            return true;
-        }
-        let free = c.state == Clump::FREE;
-        if both(below, free) {
-            return true;
-        }
-        below = free;
-        h += c.nbytes as usize;
+    if s.first != 0 {
+        return true;
     }
-}
-
-// nbytes of a clump in that state, 0 of any other.
-fn share(c: Clump, state: u64) -> u64
-    ensures { λ r. ⌜ r ≡ cond (eqb (c .state) state) (c .nbytes) 0 ⌝ }
-{
-    if c.state == state {
-        return c.nbytes;
-    }
-    0
-}
-
-fn total(img: &[u8], state: u64) -> u64
-    requires { ⌜ Tiled (now img) ⌝ }
-    ensures { λ r. ⌜ r ≡ totalOf state (clumpsOf (now (img .entry))) ⌝ }
-{
-    let mut h: usize = CLUMPS_AT;
-    let mut sum: u64 = 0;
-    loop {
-        if img.len() <= h {
-            return sum;
-        }
-        let c = Clump::read(img, h);
-        sum += share(c, state);
-        h += c.nbytes as usize;
-    }
-}
-
-// The tests 1 and 2: the refusal, or answer 0.
-pub fn sound(img: &[u8]) -> Answer
-    ensures { λ r. ⌜ ((fuse : ℕ) → r ≡ answerOf fuse (ifSound (length (now (img .entry))) (mem (now (img .entry))) (granted 0 []))) ⌝ }
-{
-    if !page::is_pool(img) {
-        return answer::unstored(Answer::NOT_A_POOL, 0, 0);
-    }
-    let j = judge::judge(img);
-    let Judged::Fault { place, fault } = j else {
-        return answer::unstored(Answer::DONE, 0, 0);
-    };
-    answer::unstored(Answer::NOT_SOUND, place, fault)
+    s.touched
 }
 
 // The tests 1, 2 and 3, which every request but create, check and recover begins with: the refusal, or answer 0.
 pub fn survey(img: &[u8]) -> Answer
     ensures { λ r. ⌜ ((fuse : ℕ) → r ≡ answerOf fuse (ifSettled (length (now (img .entry))) (mem (now (img .entry))) (granted 0 []))) ⌝ }
 {
-    let a = sound(img);
+    let v = sound(img);
+    let a = v.answer;
     if a.answer != Answer::DONE {
         return a;
     }
-    if is_unsettled(img) {
+    if is_unsettled(v.seen) {
         return answer::unstored(Answer::UNSETTLED, 0, 0);
     }
     a
@@ -113,7 +78,8 @@ pub struct Checked {
 pub fn check(img: &[u8]) -> Checked
     ensures { λ r. ⌜ Checks (now (img .entry)) r ⌝ }
 {
-    let a = sound(img);
+    let v = sound(img);
+    let a = v.answer;
     if a.answer != Answer::DONE {
         return Checked {
             answer: a,
@@ -126,13 +92,8 @@ pub fn check(img: &[u8]) -> Checked
             },
         };
     }
-    let t = Totals {
-        free: total(img, Clump::FREE),
-        reserved: total(img, Clump::RESERVED),
-        activating: total(img, Clump::ACTIVATING),
-        active: total(img, Clump::ACTIVE),
-        freeing: total(img, Clump::FREEING),
-    };
+    let s = v.seen;
+    let t = s.totals;
     Checked {
         answer: a,
         totals: t,

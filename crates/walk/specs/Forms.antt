@@ -1,13 +1,12 @@
 -- How the code's answers stand for the rules': each is a function of the rule's own answer, so that a contract is an equation.
 -- Assumes nothing.
 use Prim.Native.Nat.{ℕ}
-use mathlib.Core.Bool.{Bool, true, _&&_, _||_}
-use mathlib.Core.List.{List, [], _∷_}
-use lib.Dec.{eqb}
+use mathlib.Core.Bool.{Bool}
+use mathlib.Core.List.{List}
 use mathlib.Core.Option.{Option, some, none}
 use Rattle.rules.specs.Clumps.{Head}
 use Rattle.rules.specs.Sound.{isValid}
-use Rattle.page.specs.Forms.{targetOf}
+use Rattle.page.specs.Forms.{listPasses}
 use Rattle.walk.specs.declared.Found.{Found}
 use Rattle.walk.specs.declared.Found.the-variants.{At, Nothing}
 
@@ -17,6 +16,5 @@ foundOf none = Nothing
 foundOf (some f) = At (f .0) (f .1)
 
 -- every used target of a list that was read is valid
-unfoldable pub listValid : List Head → List (List ℕ) → Bool
-listValid hs [] = true
-listValid hs (e ∷ es) = (eqb (targetOf e) 0 || isValid hs (targetOf e)) && listValid hs es
+abbrev pub listValid : List Head → List (List ℕ) → Bool
+listValid hs = listPasses (isValid hs)

@@ -1,20 +1,18 @@
 -- Laws of the searches over the clumps: a word in a part without a sum, what the offset or the enum of a search tells in clumps that
--- tile, and the targets of a list that was read, one entry after the other. Assumes nothing.
+-- tile, and the targets of a list that was read. Assumes nothing.
 use Prim.Native.Nat.{ℕ, zero, suc, _+_, _-_, _<_, _≤_}
 use mathlib.Core.Path.{_≡_, refl, sym, ap, subst, _∙_}
-use mathlib.Core.List.{List, [], _∷_, map}
-use mathlib.Core.Bool.{Bool, true, false, cond, not, _&&_, _||_}
+use mathlib.Core.List.{List, [], _∷_}
+use mathlib.Core.Bool.{Bool, true, false, _||_}
 use mathlib.Core.Option.{Option, some, none, Option·map}
 use native.Mathlib.Omega.{arith}
-use native.Mathlib.Numerals.{add-one}
-use lib.ListN.{length, getD, drop, drop-of-length-le}
-use lib.Seq.{drop-cons}
+use lib.ListN.{getD}
 use lib.Dec.{leb, eqb}
 use borrow.Author.Tests.{lt-leb, le-leb, ne-eqb}
-use Rattle.rules.specs.Lists.{seek, those, all}
+use Rattle.rules.specs.Lists.{seek}
 use Rattle.rules.specs.Words.{Mem}
 use Rattle.rules.specs.Pages.{clumpsAt}
-use Rattle.rules.specs.Clumps.{Head, head, bodyOf, slots, isUsed, Tiles, walk, offsetOf}
+use Rattle.rules.specs.Clumps.{Head, head, bodyOf, slots, Tiles, walk, offsetOf}
 use Rattle.rules.specs.Sound.{lies, isValid, allValid}
 use Rattle.rules.specs.Requests.{finder, belowOf, finding}
 use Rattle.word.specs.Tests.{leb-same}
@@ -22,7 +20,8 @@ use Rattle.laws.specs.Searches.{and-both}
 use Rattle.laws.specs.Walking.{Inside, seek-placed}
 use Rattle.laws.specs.Lying.{valid-in}
 use Rattle.walk.specs.Forms.{foundOf, listValid}
-use Rattle.page.specs.Forms.{entryAt, targetOf, listAt, InImage}
+use Rattle.page.specs.Forms.{targetOf, listAt, listPasses, InImage}
+use Rattle.page.specs.Slots.{passes-all}
 use Rattle.walk.specs.declared.Found.{Found}
 use Rattle.walk.specs.declared.Found.the-variants.{At, Nothing}
 
@@ -36,29 +35,31 @@ lies-above a b t l u = rw (le-leb a t l, lt-leb (t + 8) b (omega arith))
 pub lies-between : (a b t : ℕ) → a ≤ t → t < b → leb 8 (b - t) ≡ lies a b t
 lies-between a b t l u = rw (le-leb a t l) (leb-same 8 (b - t) (t + 8) b (λ k. omega arith) (λ k. omega arith))
 
--- what the offset of a search tells, in clumps that tile
-module _ (n : ℕ) (m : Mem) (p : Head → Bool) (tiles : Tiles clumpsAt (walk n m) n) (r : ℕ) (e : r ≡ offsetOf n (seek p (walk n m))) where
-  pub offset-none : n ≤ r → seek p (walk n m) ≡ none
+-- what the offset of a search tells, in clumps that tile; the mark stands for none
+module _ (n : ℕ) (m : Mem) (p : Head → Bool) (tiles : Tiles clumpsAt (walk n m) n) (mark r : ℕ) (e : r ≡ offsetOf mark (seek p (walk n m))) where
+  -- where no clump begins
+  pub offset-none : (clumpsAt ≤ r → n ≤ r) → seek p (walk n m) ≡ none
   offset-none l = go (seek p (walk n m)) refl
     where
       go : (o : Option Head) → seek p (walk n m) ≡ o → seek p (walk n m) ≡ none
       go none q = q
       go (some h) q =
           let i = seek-placed n m p h tiles q in
-          let f : r ≡ h .at = e ∙ ap (offsetOf n) q in
-          absurd (omega (arith, i .inside .least, i .inside .room))
+          let f : r ≡ h .at = e ∙ ap (offsetOf mark) q in
+          absurd (omega (arith, l (omega (arith, i .low)), i .inside .least, i .inside .room))
 
-  pub offset-some : r < n → seek p (walk n m) ≡ some (head m r)
-  offset-some l = go (seek p (walk n m)) refl
-    where
-      go : (o : Option Head) → seek p (walk n m) ≡ o → seek p (walk n m) ≡ some (head m r)
-      go none q = let f : r ≡ n = e ∙ ap (offsetOf n) q in absurd (omega arith)
-      go (some h) q =
-          let f : r ≡ h .at = e ∙ ap (offsetOf n) q in
-          q ∙ ap {B = Option Head} some (seek-placed n m p h tiles q .head-is ∙ ap (head m) (sym f))
+  module _ (f : r ≡ mark → ⊥) where
+    pub offset-some : seek p (walk n m) ≡ some (head m r)
+    offset-some = go (seek p (walk n m)) refl
+      where
+        go : (o : Option Head) → seek p (walk n m) ≡ o → seek p (walk n m) ≡ some (head m r)
+        go none q = absurd (f (e ∙ ap (offsetOf mark) q))
+        go (some h) q =
+            let g : r ≡ h .at = e ∙ ap (offsetOf mark) q in
+            q ∙ ap {B = Option Head} some (seek-placed n m p h tiles q .head-is ∙ ap (head m) (sym g))
 
-  pub offset-inside : r < n → Inside n m r
-  offset-inside l = seek-placed n m p (head m r) tiles (offset-some l) .inside
+    pub offset-inside : Inside n m r
+    offset-inside = seek-placed n m p (head m r) tiles offset-some .inside
 
 -- the clump at h is the one that has its body there, and the one at b is below it
 pub record Finds (n : ℕ) (m : Mem) (body h b : ℕ) : Type 0 where
@@ -95,42 +96,14 @@ module _ (n : ℕ) (m : Mem) (body : ℕ) (tiles : Tiles clumpsAt (walk n m) n) 
           let s : k ≡ head m h = i .head-is ∙ ap (head m) a in
           record { found = q ∙ ap {B = Option Head} some s; under = sym d ∙ ap (belowOf (walk n m)) s; inside = subst (Inside n m) a (i .inside) }
 
--- the list that was read from a clump, one entry after the other
-valid-from : (m : Mem) (hs : List Head) (sl : List ℕ) → listValid hs (map (entryAt m) sl) ≡ all (λ s. isValid hs (m s)) (those (isUsed m) sl)
-unfolding listValid those all
-valid-from m hs [] = refl
-valid-from m hs (s ∷ sl) = go (eqb (m s) 0) (valid-from m hs sl)
-  where
-    go :
-        (b : Bool)
-        → listValid hs (map (entryAt m) sl) ≡ all (λ r. isValid hs (m r)) (those (isUsed m) sl)
-        → ((b || isValid hs (m s)) && listValid hs (map (entryAt m) sl)) ≡ all (λ r. isValid hs (m r)) (cond (not b) (s ∷ those (isUsed m) sl) (those (isUsed m) sl))
-    go true e = e
-    go false e = ap (λ (c : Bool). isValid hs (m s) && c) e
-
+-- the list that was read from a clump
 pub list-valid : (m : Mem) (hs : List Head) (a : ℕ) (l : List (List ℕ)) → l ≡ listAt m a → listValid hs l ≡ allValid m hs (head m a)
 unfolding allValid
-list-valid m hs a l e = rw e (valid-from m hs (slots a))
-
--- a loop over the list: what is left of it still has the answer of the whole
-module _ (hs : List Head) (l : List (List ℕ)) (i : ℕ) (u : i < length l) (w : listValid hs (drop i l) ≡ listValid hs l) where
-  here : listValid hs (drop i l) ≡ ((eqb (targetOf (getD l i [])) 0 || isValid hs (targetOf (getD l i []))) && listValid hs (drop (i + 1) l))
-  unfolding listValid
-  here = rw (add-one, drop-cons l i [] u)
-
-  pub valid-stop : (eqb (targetOf (getD l i [])) 0 || isValid hs (targetOf (getD l i []))) ≡ false → false ≡ listValid hs l
-  valid-stop f = sym (sym w ∙ here ∙ rw f)
-
-  pub valid-go : (eqb (targetOf (getD l i [])) 0 || isValid hs (targetOf (getD l i []))) ≡ true → listValid hs (drop (i + 1) l) ≡ listValid hs l
-  valid-go f = sym (here ∙ rw f) ∙ w
-
-pub valid-end : (hs : List Head) (l : List (List ℕ)) (i : ℕ) → length l ≤ i → listValid hs (drop i l) ≡ listValid hs l → true ≡ listValid hs l
-unfolding listValid
-valid-end hs l i u w = rw (drop-of-length-le l u) at w
+list-valid m hs a l e = rw e (passes-all (isValid hs) m (slots a))
 
 -- the used targets of a valid list lie in the image
 valid-at : (hs : List Head) (l : List (List ℕ)) (i : ℕ) → listValid hs l ≡ true → (targetOf (getD l i []) ≡ 0 → ⊥) → isValid hs (targetOf (getD l i [])) ≡ true
-unfolding listValid
+unfolding listPasses
 valid-at hs [] i e h = absurd (h refl)
 valid-at hs (x ∷ l) zero e h = rw (ne-eqb (targetOf x) 0 h) at (and-both (eqb (targetOf x) 0 || isValid hs (targetOf x)) (listValid hs l) e .0)
 valid-at hs (x ∷ l) (suc i) e h = valid-at hs l i (and-both (eqb (targetOf x) 0 || isValid hs (targetOf x)) _ e .1) h

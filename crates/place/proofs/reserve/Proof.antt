@@ -44,7 +44,7 @@ same-length-3 c = search needs
 returns-3 : tie.Need-returns-3
 unfolding verdict
 returns-3 c = rw (c .refusal2 .ensures)
-    (passed-does (c .before .before .before .before .before .before .before .before .before .before .args .img .now) _ (c .before .before .before .before .before .before .before .survey .ensures) (reserve _ _) (refuse noRoom) (c .before .before .before .before .before .if1 .left) refl (reserve-none _ _ (c .before .before .before .before .if2 .left) (offset-none _ _ (fits (needOf (c .before .before .before .before .before .before .before .before .before .before .args .size))) (settled-tiles (c .before .before .before .before .before .before .before .before .before .before .args .img .now) _ (c .before .before .before .before .before .before .before .survey .ensures) (c .before .before .before .before .before .if1 .left)) _ (c .before .before .first-fit .ensures) (c .before .if3 .taken))) (acts-refused _ _ _ _ _))
+    (passed-does (c .before .before .before .before .before .before .before .before .before .before .args .img .now) _ (c .before .before .before .before .before .before .before .survey .ensures) (reserve _ _) (refuse noRoom) (c .before .before .before .before .before .if1 .left) refl (reserve-none _ _ (c .before .before .before .before .if2 .left) (offset-none _ _ (fits (needOf (c .before .before .before .before .before .before .before .before .before .before .args .size))) (settled-tiles (c .before .before .before .before .before .before .before .before .before .before .args .img .now) _ (c .before .before .before .before .before .before .before .survey .ensures) (c .before .before .before .before .before .if1 .left)) _ _ (c .before .before .first-fit .ensures) (λ l. c .before .if3 .taken))) (acts-refused _ _ _ _ _))
 
 reserve-at-requires : tie.Need-reserve-at-requires
 reserve-at-requires c κs = let l = settled-length (c .before .before .before .before .before .before .before .before .before .before .args .img .now) _ (c .before .before .before .before .before .before .before .survey .ensures) (c .before .before .before .before .before .if1 .left) in
@@ -55,7 +55,7 @@ same-length-4 c = search needs
 
 returns-4 : tie.Need-returns-4
 unfolding verdict
-returns-4 c = passed-does (c .before .before .before .before .before .before .before .before .before .before .before .before .before .args .img .now) _ (c .before .before .before .before .before .before .before .before .before .before .survey .ensures) (reserve _ _) _ (c .before .before .before .before .before .before .before .before .if1 .left) refl (reserve-some _ _ (c .before .before .before .before .before .before .before .if2 .left) _ (offset-some _ _ (fits (needOf (c .before .before .before .before .before .before .before .before .before .before .before .before .before .args .size))) (settled-tiles (c .before .before .before .before .before .before .before .before .before .before .before .before .before .args .img .now) _ (c .before .before .before .before .before .before .before .before .before .before .survey .ensures) (c .before .before .before .before .before .before .before .before .if1 .left)) _ (c .before .before .before .before .before .first-fit .ensures) (c .before .before .before .before .if3 .left))) (c .before .before .reserve-at .ensures)
+returns-4 c = passed-does (c .before .before .before .before .before .before .before .before .before .before .before .before .before .args .img .now) _ (c .before .before .before .before .before .before .before .before .before .before .survey .ensures) (reserve _ _) _ (c .before .before .before .before .before .before .before .before .if1 .left) refl (reserve-some _ _ (c .before .before .before .before .before .before .before .if2 .left) _ (offset-some _ _ (fits (needOf (c .before .before .before .before .before .before .before .before .before .before .before .before .before .args .size))) (settled-tiles (c .before .before .before .before .before .before .before .before .before .before .before .before .before .args .img .now) _ (c .before .before .before .before .before .before .before .before .before .before .survey .ensures) (c .before .before .before .before .before .before .before .before .if1 .left)) _ _ (c .before .before .before .before .before .first-fit .ensures) (λ q. omega (arith, c .before .before .before .before .if3 .left)))) (c .before .before .reserve-at .ensures)
 
 pub reserve-spec : {M : Type 1} → statement M
 reserve-spec =

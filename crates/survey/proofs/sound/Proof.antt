@@ -2,7 +2,7 @@
 use mathlib.Core.Path.{sym, _∙_}
 use borrow.Author.Tests.{not-true, not-false}
 use Rattle.judge.specs.Judging.{judged-sound}
-use Rattle.survey.specs.Checking.{sound-no-pool, sound-fault, sound-done}
+use Rattle.survey.specs.Checking.{surveys-no-pool, surveys-fault, surveys-done}
 use borrow.Author.Needs.{needs}
 use Rattle.survey.proofs.sound.Statement.{statement}
 use Rattle.survey.proofs.sound.Tie as tie
@@ -13,8 +13,15 @@ is-pool-requires c κs = search needs
 unstored-requires : tie.Need-unstored-requires
 unstored-requires c κs = search needs
 
+start-requires : tie.Need-start-requires
+start-requires c κs = search needs
+
 returns : tie.Need-returns
-returns c = rw (c .unstored .ensures) (sound-no-pool _ _ (sym (c .before .before .is-pool .ensures) ∙ not-true _ (c .before .if1 .taken)))
+returns c = let i = c .before .before in
+    surveys-no-pool (i .before .before .before .args .img .now) _ _ (sym (i .before .is-pool .ensures) ∙ not-true _ (i .if1 .taken)) (c .before .unstored .ensures) (c .start .ensures)
+
+see-requires : tie.Need-see-requires
+see-requires c κs = search needs
 
 judge-requires : tie.Need-judge-requires
 judge-requires c κs = search needs
@@ -29,13 +36,19 @@ unstored-requires-2 : tie.Need-unstored-requires-2
 unstored-requires-2 c κs = search needs
 
 returns-2 : tie.Need-returns-2
-returns-2 c = rw (c .unstored2 .ensures) (sound-done _ _ (sym (c .before .before .before .before .before .is-pool .ensures) ∙ not-false _ (c .before .before .before .before .if1 .left)) (judged-sound _ (sym (c .before .enum-told .given .1) ∙ c .before .before .before .judge .ensures)))
+returns-2 c = let t = c .before in
+    let j = t .before .before in
+    let i = j .before .before in
+    surveys-done (i .before .before .before .args .img .now) _ _ (sym (i .before .is-pool .ensures) ∙ not-false _ (i .if1 .left)) (j .before .see .ensures) (judged-sound _ (sym (t .enum-told .given .1) ∙ j .judge .ensures)) (c .unstored2 .ensures)
 
 unstored-requires-3 : tie.Need-unstored-requires-3
 unstored-requires-3 c κs = search needs
 
 returns-3 : tie.Need-returns-3
-returns-3 c = rw (c .unstored3 .ensures) (sound-fault _ _ (sym (c .before .before .before .before .before .before .is-pool .ensures) ∙ not-false _ (c .before .before .before .before .before .if1 .left)) _ _ (sym (c .before .before .j .given .1) ∙ c .before .before .before .before .judge .ensures))
+returns-3 c = let t = c .before .before in
+    let j = t .before .before in
+    let i = j .before .before in
+    surveys-fault (i .before .before .before .args .img .now) _ _ (sym (i .before .is-pool .ensures) ∙ not-false _ (i .if1 .left)) (j .before .see .ensures) _ _ (sym (t .j .given .1) ∙ j .judge .ensures) (c .unstored3 .ensures)
 
 pub sound-spec : {M : Type 1} → statement M
 sound-spec =
@@ -43,7 +56,9 @@ sound-spec =
     (tie.spec
     is-pool-requires
     unstored-requires
+    start-requires
     returns
+    see-requires
     judge-requires
     enum-known-j
     enum-told

@@ -6,8 +6,9 @@ use native.Mathlib.Omega.{arith}
 use borrow.Author.Needs.{needs}
 use borrow.Author.Tests.{not-true, not-false}
 use Rattle.rules.specs.Reading.{clumpsOf, Tiled}
+use Rattle.rules.specs.Sound.{isValid}
 use Rattle.walk.specs.Forms.{listValid}
-use Rattle.walk.specs.Scans.{valid-stop, valid-go, valid-end}
+use Rattle.page.specs.Slots.{passes-stop, passes-go, passes-end}
 use Rattle.walk.proofs.all_valid.Statement.{statement}
 use Rattle.walk.proofs.all_valid.Tie as tie
 
@@ -33,7 +34,7 @@ entry-valid-requires : tie.Need-entry-valid-requires Inv-loop μ-loop
 entry-valid-requires c κs = c .before .before .loop .inv .1
 
 returns : tie.Need-returns Inv-loop μ-loop
-returns c = valid-stop (clumpsOf (c .before .before .before .before .before .before .args .img .now)) (c .before .before .before .before .before .before .args .t2) (c .before .before .before .before .loop .i) (search needs) (c .before .before .before .before .loop .inv .2) (sym (c .before .entry-valid .ensures) ∙ not-true _ (c .if1 .taken))
+returns c = passes-stop (isValid (clumpsOf (c .before .before .before .before .before .before .args .img .now))) (c .before .before .before .before .before .before .args .t2) (c .before .before .before .before .loop .i) (search needs) (c .before .before .before .before .loop .inv .2) (sym (c .before .entry-valid .ensures) ∙ not-true _ (c .if1 .taken))
 
 add-i : tie.Need-add-i Inv-loop μ-loop
 add-i c = search needs
@@ -42,11 +43,11 @@ loop-less : tie.Need-loop-less Inv-loop μ-loop
 loop-less c = search needs
 
 loop-again : tie.Need-loop-again Inv-loop μ-loop
-loop-again c = (search needs, c .before .before .before .before .loop .inv .1, valid-go (clumpsOf (c .before .before .before .before .before .before .args .img .now)) (c .before .before .before .before .before .before .args .t2) (c .before .before .before .before .loop .i) (search needs) (c .before .before .before .before .loop .inv .2) (sym (c .before .entry-valid .ensures) ∙ not-false _ (c .if1 .left)))
+loop-again c = (search needs, c .before .before .before .before .loop .inv .1, passes-go (isValid (clumpsOf (c .before .before .before .before .before .before .args .img .now))) (c .before .before .before .before .before .before .args .t2) (c .before .before .before .before .loop .i) (search needs) (c .before .before .before .before .loop .inv .2) (sym (c .before .entry-valid .ensures) ∙ not-false _ (c .if1 .left)))
 
 returns-2 : tie.Need-returns-2 Inv-loop μ-loop
 returns-2 c = let n : length (c .before .before .before .args .t2) ≡ 3 = search needs in
-    valid-end (clumpsOf (c .before .before .before .args .img .now)) (c .before .before .before .args .t2) (c .before .loop .i) (omega arith) (c .before .loop .inv .2)
+    passes-end (isValid (clumpsOf (c .before .before .before .args .img .now))) (c .before .before .before .args .t2) (c .before .loop .i) (omega arith) (c .before .loop .inv .2)
 
 pub all-valid-spec : {M : Type 1} → statement M
 all-valid-spec =

@@ -1,0 +1,267 @@
+-- What the state is after any beginning of the clumps: each part of it is what 01 says of those clumps. The first fault by induction on the
+-- clumps; where there is none each part goes by itself, by induction with what was there before. Assumes nothing.
+use Prim.Native.Nat.{ℕ, zero, suc, _+_, _≤_}
+use mathlib.Core.Path.{_≡_, refl, sym, ap, subst, _∙_}
+use mathlib.Core.Bool.{Bool, true, false, cond, _&&_, _||_, and-true, and-false}
+use mathlib.Core.Option.{Option, some, none}
+use mathlib.Core.List.{List, [], _∷_, _++_}
+use native.Mathlib.Omega.{arith}
+use native.Mathlib.Nat.{zero-add, add-zero}
+use lib.Dec.{eqb}
+use borrow.Author.Tests.{eq-eqb, ne-eqb, eqb-true}
+use Rattle.rules.specs.declared.Totals.{Totals}
+use Rattle.rules.specs.Lists.{seek, those, Each}
+use Rattle.rules.specs.Words.{Mem}
+use Rattle.rules.specs.Clumps.{Head, hasState, isFree, isPending, offsetOf, walk, FREE, RESERVED, ACTIVATING, ACTIVE, FREEING}
+use Rattle.rules.specs.Sound.{Fault, faultAt, faultOf, clumpFault, second, secondFault, startsFree, touching}
+use Rattle.rules.specs.Answers.{granted, bytesOf, totalOf, totalsFor}
+use Rattle.laws.specs.Searches.{some-none, seek-hit, seek-pass, seek-nil, each-left}
+use Rattle.laws.specs.Walks.{Low, walk-low, clump-hit, clump-pass, clump-end}
+use Rattle.seen.specs.declared.Seen.{Seen}
+use Rattle.seen.specs.States.{UpTo, nothing, broken, plus, eachTotal, marked, more, takes, seenFrom, seen}
+
+-- one clump more
+module _ (n : ℕ) (m : Mem) (s : Seen) where
+  pub seen-stays : (hs : List Head) → (s .fault ≡ 0 → ⊥) → seenFrom n m s hs ≡ s
+  unfolding seenFrom
+  seen-stays [] f = refl
+  seen-stays (h ∷ hs) f = rw (ne-eqb (s .fault) 0 f)
+
+  pub seen-step : (h : Head) (hs : List Head) → s .fault ≡ 0 → seenFrom n m s (h ∷ hs) ≡ seenFrom n m (takes (faultOf n m h) s h) hs
+  unfolding seenFrom
+  seen-step h hs z = rw (eq-eqb (s .fault) 0 z)
+
+  pub seen-end : seenFrom n m s [] ≡ s
+  unfolding seenFrom
+  seen-end = refl
+
+-- a state that takes a clump in and is then without fault: the clump had none, and the totals have stayed within its end
+module _ (f : ℕ) (s : Seen) (h : Head) where
+  pub takes-sound : takes f s h .fault ≡ 0 → f ≡ 0
+  takes-sound e = go (eqb f 0) refl e
+    where
+      go : (b : Bool) → eqb f 0 ≡ b → cond b (more s h) (broken f (h .at) s) .fault ≡ 0 → f ≡ 0
+      go true p e = eqb-true f 0 p
+      go false p e = e
+
+  plus-least : (k t a : ℕ) → k ≤ a → plus k t h ≤ a + h .nbytes
+  plus-least k t a l = go (hasState t h)
+    where
+      go : (b : Bool) → cond b (k + h .nbytes) k ≤ a + h .nbytes
+      go true = omega arith
+      go false = omega arith
+
+  pub takes-up : (a : ℕ) → f ≡ 0 → UpTo a (s .totals) → UpTo (a + h .nbytes) (takes f s h .totals)
+  takes-up a z u =
+      rw z (
+        plus-least (s .totals .free) FREE a (u .0),
+        plus-least (s .totals .reserved) RESERVED a (u .1),
+        plus-least (s .totals .activating) ACTIVATING a (u .2),
+        plus-least (s .totals .active) ACTIVE a (u .3),
+        plus-least (s .totals .freeing) FREEING a (u .4),
+      )
+
+-- all the clumps, where none has a fault
+mores : Seen → List Head → Seen
+mores s [] = s
+mores s (h ∷ hs) = mores (more s h) hs
+
+-- what the clumps come to: none has a fault, or one is the first
+data Came (n : ℕ) (m : Mem) (s : Seen) (hs : List Head) : Type 0 where
+  sound : clumpFault n m hs ≡ none → seenFrom n m s hs ≡ mores s hs → Came n m s hs
+  fault : (f : Fault) → clumpFault n m hs ≡ some f → (f .number ≡ 0 → ⊥) → seenFrom n m s hs .fault ≡ f .number → seenFrom n m s hs .place ≡ f .place → Came n m s hs
+
+came : (n : ℕ) (m : Mem) (s : Seen) (hs : List Head) → s .fault ≡ 0 → Came n m s hs
+unfolding seenFrom mores
+came n m s [] z = sound (clump-end n m) refl
+came n m s (h ∷ hs) z = go (faultOf n m h) refl (came n m (more s h) hs z)
+  where
+    go : (f : ℕ) → faultOf n m h ≡ f → Came n m (more s h) hs → Came n m s (h ∷ hs)
+    go zero e (sound p q) = sound (clump-pass n m h hs e ∙ p) (seen-step n m s h hs z ∙ rw e q)
+    go zero e (fault f p x q r) = fault f (clump-pass n m h hs e ∙ p) x (rw (seen-step n m s h hs z, e) q) (rw (seen-step n m s h hs z, e) r)
+    go (suc k) e c =
+        let b : seenFrom n m s (h ∷ hs) ≡ broken (suc k) (h .at) s = seen-step n m s h hs z ∙ rw (e, ne-eqb (suc k) 0 (λ x. omega arith)) (seen-stays n m (broken (suc k) (h .at) s) hs (λ x. omega arith)) in
+        fault (faultAt (suc k) h) (clump-hit n m h hs (suc k) (sym e) (λ x. omega arith)) (λ x. omega arith) (ap (λ (t : Seen). t .fault) b) (ap (λ (t : Seen). t .place) b)
+
+-- the totals
+total-more : (k t : ℕ) (h : Head) (hs : List Head) → plus k t h + totalOf t hs ≡ k + totalOf t (h ∷ hs)
+unfolding those bytesOf
+total-more k t h hs = go (hasState t h)
+  where
+    go : (b : Bool) → cond b (k + h .nbytes) k + bytesOf (those (hasState t) hs) ≡ k + bytesOf (cond b (h ∷ those (hasState t) hs) (those (hasState t) hs))
+    go true = omega arith
+    go false = refl
+
+totals-same : (f g : ℕ → ℕ → ℕ) (t : Totals) → ((k s : ℕ) → f k s ≡ g k s) → eachTotal f t ≡ eachTotal g t
+totals-same f g t e =
+    λ i.
+    record {
+      free = e (t .free) FREE i;
+      reserved = e (t .reserved) RESERVED i;
+      activating = e (t .activating) ACTIVATING i;
+      active = e (t .active) ACTIVE i;
+      freeing = e (t .freeing) FREEING i;
+    }
+
+mores-totals : (s : Seen) (hs : List Head) → mores s hs .totals ≡ eachTotal (λ k t. k + totalOf t hs) (s .totals)
+unfolding mores those bytesOf
+mores-totals s [] = totals-same (λ k t. k) (λ k t. k + 0) (s .totals) (λ k t. sym (add-zero k))
+mores-totals s (h ∷ hs) =
+    mores-totals (more s h) hs
+    ∙ totals-same (λ k t. plus k t h + totalOf t hs) (λ k t. k + totalOf t (h ∷ hs)) (s .totals) (λ k t. total-more k t h hs)
+
+-- the FREE clump that came last
+abbrev pub endsFree : Bool → List Head → Bool
+endsFree b [] = b
+endsFree b (h ∷ hs) = endsFree (isFree h) hs
+
+mores-free : (s : Seen) (hs : List Head) → mores s hs .free ≡ endsFree (s .free) hs
+unfolding mores
+mores-free s [] = refl
+mores-free s (h ∷ hs) = mores-free (more s h) hs
+
+-- two that touch
+mores-touched : (s : Seen) (hs : List Head) → mores s hs .touched ≡ (s .touched || ((s .free && startsFree hs) || touching hs))
+unfolding mores touching
+mores-touched s [] = go (s .touched) (s .free)
+  where
+    go : (a b : Bool) → a ≡ (a || ((b && false) || false))
+    go true b = refl
+    go false true = refl
+    go false false = refl
+mores-touched s (h ∷ hs) = mores-touched (more s h) hs ∙ go (s .touched) (s .free) (isFree h) (isFree h && startsFree hs || touching hs)
+  where
+    go : (a b c d : Bool) → (((c && b) || a) || d) ≡ (a || ((b && c) || d))
+    go true true true d = refl
+    go true true false d = refl
+    go true false true d = refl
+    go true false false d = refl
+    go false true true d = refl
+    go false true false d = refl
+    go false false true d = refl
+    go false false false d = refl
+
+-- the first unfinished clump behind a mark
+marks : ℕ → List Head → ℕ
+marks old [] = old
+marks old (h ∷ hs) = marks (cond (isPending h) (marked old h) old) hs
+
+cond-same : (b : Bool) (x : ℕ) → cond b x x ≡ x
+cond-same true x = refl
+cond-same false x = refl
+
+marks-kept : (old : ℕ) (hs : List Head) → (old ≡ 0 → ⊥) → marks old hs ≡ old
+unfolding marks
+marks-kept old [] f = refl
+marks-kept old (h ∷ hs) f = rw (ne-eqb old 0 f, cond-same) (marks-kept old hs f)
+
+marks-found : (hs : List Head) → Each Low hs → marks 0 hs ≡ offsetOf 0 (seek isPending hs)
+unfolding marks
+marks-found [] l = ap (offsetOf 0) (sym (seek-nil isPending))
+marks-found (h ∷ hs) l = go (isPending h) refl (marks-found hs (l .1))
+  where
+    go : (b : Bool) → isPending h ≡ b → marks 0 hs ≡ offsetOf 0 (seek isPending hs) → marks (cond (isPending h) (marked 0 h) 0) hs ≡ offsetOf 0 (seek isPending (h ∷ hs))
+    go true e ih = rw e (marks-kept (h .at) hs (λ x. omega (arith, l .0)) ∙ ap (offsetOf 0) (sym (seek-hit isPending h hs e)))
+    go false e ih = rw e (ih ∙ ap (offsetOf 0) (sym (seek-pass isPending h hs e)))
+
+mores-first : (s : Seen) (hs : List Head) → mores s hs .first ≡ marks (s .first) hs
+unfolding mores marks
+mores-first s [] = refl
+mores-first s (h ∷ hs) = mores-first (more s h) hs
+
+-- and the second: the first behind the first
+abbrev pub placeOf : Option Fault → ℕ
+placeOf none = 0
+placeOf (some f) = f .place
+
+second-seek : (h : Head) (hs : List Head) → placeOf (second (h ∷ those isPending hs)) ≡ offsetOf 0 (seek isPending hs)
+unfolding those
+second-seek h [] = ap (offsetOf 0) (sym (seek-nil isPending))
+second-seek h (k ∷ hs) = go (isPending k) refl (second-seek h hs)
+  where
+    go : (b : Bool) → isPending k ≡ b → placeOf (second (h ∷ those isPending hs)) ≡ offsetOf 0 (seek isPending hs) → placeOf (second (h ∷ those isPending (k ∷ hs))) ≡ offsetOf 0 (seek isPending (k ∷ hs))
+    go true e ih = rw e (ap (offsetOf 0) (sym (seek-hit isPending k hs e)))
+    go false e ih = rw e (ih ∙ ap (offsetOf 0) (sym (seek-pass isPending k hs e)))
+
+mores-next : (s : Seen) (hs : List Head) → (s .first ≡ 0 → ⊥) → mores s hs .second ≡ marks (s .second) hs
+unfolding mores marks
+mores-next s [] f = refl
+mores-next s (h ∷ hs) f =
+    let e = ne-eqb (s .first) 0 f in
+    let a : more s h .first ≡ s .first = rw (e, cond-same) in
+    mores-next (more s h) hs (λ x. f (sym a ∙ x)) ∙ rw (e, and-true)
+
+mores-second : (s : Seen) (hs : List Head) → Each Low hs → s .first ≡ 0 → s .second ≡ 0 → mores s hs .second ≡ placeOf (second (those isPending hs))
+unfolding mores those
+mores-second s [] l e f = f
+mores-second s (h ∷ hs) l e f = go (isPending h) refl (mores-second (more s h) hs (l .1))
+  where
+    unmarked : more s h .second ≡ 0
+    unmarked = rw (eq-eqb (s .first) 0 e, and-false) f
+
+    go :
+        (b : Bool)
+        → isPending h ≡ b
+        → (more s h .first ≡ 0 → more s h .second ≡ 0 → mores (more s h) hs .second ≡ placeOf (second (those isPending hs)))
+        → mores (more s h) hs .second ≡ placeOf (second (those isPending (h ∷ hs)))
+    go true p ih =
+        let a : more s h .first ≡ h .at = rw (p, eq-eqb (s .first) 0 e) in
+        mores-next (more s h) hs (λ x. omega (arith, l .0))
+        ∙ ap (λ (k : ℕ). marks k hs) unmarked
+        ∙ marks-found hs (l .1)
+        ∙ sym (second-seek h hs)
+        ∙ rw p
+    go false p ih = ih (rw p e) unmarked ∙ rw p
+
+-- no fault has the number 0
+abbrev pub numberOf : Option Fault → ℕ
+numberOf none = 0
+numberOf (some f) = f .number
+
+-- The state after the clumps hs, whatever beginning of the walk they are: the first of the faults 1 to 3 and its place; and where there is
+-- none, the first and the second unfinished clump, whether a FREE clump came last, whether two touched, and the five totals.
+pub record Sees (hs : List Head) (s : Seen) : Type 0 where
+  pub first-is : s .first ≡ offsetOf 0 (seek isPending hs)
+  pub second-is : s .second ≡ placeOf (secondFault hs)
+  pub free-is : s .free ≡ endsFree false hs
+  pub touched-is : s .touched ≡ touching hs
+  pub totals-are : s .totals ≡ totalsFor (granted 0 []) hs
+
+pub record After (n : ℕ) (m : Mem) (hs : List Head) (s : Seen) : Type 0 where
+  pub fault-is : s .fault ≡ numberOf (clumpFault n m hs)
+  pub place-is : s .place ≡ placeOf (clumpFault n m hs)
+  pub numbered : s .fault ≡ 0 → clumpFault n m hs ≡ none
+  pub sees : clumpFault n m hs ≡ none → Sees hs s
+
+mores-sees : (hs : List Head) → Each Low hs → Sees hs (mores nothing hs)
+unfolding secondFault
+mores-sees hs l =
+    record {
+      first-is = mores-first nothing hs ∙ marks-found hs l;
+      second-is = mores-second nothing hs l refl refl;
+      free-is = mores-free nothing hs;
+      touched-is = mores-touched nothing hs;
+      totals-are = mores-totals nothing hs ∙ totals-same (λ k t. 0 + totalOf t hs) (λ k t. totalOf t hs) (nothing .totals) (λ k t. zero-add (totalOf t hs));
+    }
+
+mores-fault : (s : Seen) (hs : List Head) → (mores s hs .fault ≡ s .fault) × (mores s hs .place ≡ s .place)
+unfolding mores
+mores-fault s [] = (refl, refl)
+mores-fault s (h ∷ hs) = mores-fault (more s h) hs
+
+each-after : (n : ℕ) (m : Mem) (hs : List Head) → Each Low hs → After n m hs (seen n m hs)
+each-after n m hs l = go (came n m nothing hs refl)
+  where
+    go : Came n m nothing hs → After n m hs (seen n m hs)
+    go (sound p q) =
+        record {
+          fault-is = ap (λ (s : Seen). s .fault) q ∙ mores-fault nothing hs .0 ∙ rw p;
+          place-is = ap (λ (s : Seen). s .place) q ∙ mores-fault nothing hs .1 ∙ rw p;
+          numbered = λ z. p;
+          sees = λ e. subst (Sees hs) (sym q) (mores-sees hs l);
+        }
+    go (fault f p x q r) =
+        record { fault-is = q ∙ rw p; place-is = r ∙ rw p; numbered = λ z. absurd (x (sym q ∙ z)); sees = λ e. some-none p e }
+
+pub seen-after : (n : ℕ) (m : Mem) (hs rest : List Head) → walk n m ≡ hs ++ rest → After n m hs (seen n m hs)
+seen-after n m hs rest e = each-after n m hs (each-left Low hs rest (subst (Each Low) e (walk-low n m)))

@@ -1,0 +1,6 @@
+-- What the contracts of `seen` cite beside the rules, what the state is after any beginning of the clumps, and what is read off it.
+pub mod Forms
+pub mod States
+pub mod Judging
+pub mod Beginnings
+pub mod Told

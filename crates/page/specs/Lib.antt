@@ -1,4 +1,4 @@
--- What the contracts of `page` cite beside the rules, and the laws of its tests and of loops over an on-list.
+-- What the contracts of `page` cite beside the rules, and the laws of its tests and of tests of an on-list.
 pub mod Forms
 pub mod Padding
 pub mod Pool

@@ -66,22 +66,64 @@ mores : Seen → List Head → Seen
 mores s [] = s
 mores s (h ∷ hs) = mores (more s h) hs
 
--- what the clumps come to: none has a fault, or one is the first
-data Came (n : ℕ) (m : Mem) (s : Seen) (hs : List Head) : Type 0 where
-  sound : clumpFault n m hs ≡ none → seenFrom n m s hs ≡ mores s hs → Came n m s hs
-  fault : (f : Fault) → clumpFault n m hs ≡ some f → (f .number ≡ 0 → ⊥) → seenFrom n m s hs .fault ≡ f .number → seenFrom n m s hs .place ≡ f .place → Came n m s hs
+-- the clumps before the first that has one of the faults 1 to 3
+unfoldable pub untilFault : ℕ → Mem → List Head → List Head
+untilFault n m [] = []
+untilFault n m (h ∷ hs) = cond (eqb (faultOf n m h) 0) (h ∷ untilFault n m hs) []
 
-came : (n : ℕ) (m : Mem) (s : Seen) (hs : List Head) → s .fault ≡ 0 → Came n m s hs
-unfolding seenFrom mores
-came n m s [] z = sound (clump-end n m) refl
-came n m s (h ∷ hs) z = go (faultOf n m h) refl (came n m (more s h) hs z)
-  where
-    go : (f : ℕ) → faultOf n m h ≡ f → Came n m (more s h) hs → Came n m s (h ∷ hs)
-    go zero e (sound p q) = sound (clump-pass n m h hs e ∙ p) (seen-step n m s h hs z ∙ rw e q)
-    go zero e (fault f p x q r) = fault f (clump-pass n m h hs e ∙ p) x (rw (seen-step n m s h hs z, e) q) (rw (seen-step n m s h hs z, e) r)
-    go (suc k) e c =
-        let b : seenFrom n m s (h ∷ hs) ≡ broken (suc k) (h .at) s = seen-step n m s h hs z ∙ rw (e, ne-eqb (suc k) 0 (λ x. omega arith)) (seen-stays n m (broken (suc k) (h .at) s) hs (λ x. omega arith)) in
-        fault (faultAt (suc k) h) (clump-hit n m h hs (suc k) (sym e) (λ x. omega arith)) (λ x. omega arith) (ap (λ (t : Seen). t .fault) b) (ap (λ (t : Seen). t .place) b)
+-- they are all that pass, and then the fault
+abbrev ended : Option Fault → Seen → Seen
+ended none s = s
+ended (some f) s = broken (f .number) (f .place) s
+
+module _ (n : ℕ) (m : Mem) where
+  comes-to : (s : Seen) (hs : List Head) → s .fault ≡ 0 → seenFrom n m s hs ≡ ended (clumpFault n m hs) (mores s (untilFault n m hs))
+  unfolding seenFrom mores untilFault
+  comes-to s [] z = rw (clump-end n m)
+  comes-to s (h ∷ hs) z = go (faultOf n m h) refl (comes-to (more s h) hs z)
+    where
+      go :
+          (f : ℕ)
+          → faultOf n m h ≡ f
+          → seenFrom n m (more s h) hs ≡ ended (clumpFault n m hs) (mores (more s h) (untilFault n m hs))
+          → seenFrom n m s (h ∷ hs) ≡ ended (clumpFault n m (h ∷ hs)) (mores s (untilFault n m (h ∷ hs)))
+      go zero e ih = seen-step n m s h hs z ∙ rw (clump-pass n m h hs e, e) ih
+      go (suc k) e ih =
+          let f : suc k ≡ 0 → ⊥ = λ x. omega arith in
+          let g = ne-eqb (suc k) 0 f in
+          seen-step n m s h hs z
+          ∙ rw (clump-hit n m h hs (suc k) (sym e) f, e, g) (seen-stays n m (broken (suc k) (h .at) s) hs f)
+
+  -- without a fault they are all
+  pub until-none : (hs : List Head) → clumpFault n m hs ≡ none → untilFault n m hs ≡ hs
+  unfolding untilFault
+  until-none [] e = refl
+  until-none (h ∷ hs) e = go (faultOf n m h) refl (until-none hs)
+    where
+      go : (f : ℕ) → faultOf n m h ≡ f → (clumpFault n m hs ≡ none → untilFault n m hs ≡ hs) → untilFault n m (h ∷ hs) ≡ h ∷ hs
+      go zero p ih = rw p (ap (λ (q : List Head). h ∷ q) (ih (sym (clump-pass n m h hs p) ∙ e)))
+      go (suc k) p ih = some-none (clump-hit n m h hs (suc k) (sym p) (λ x. omega arith)) e
+
+  until-each : (P : Head → Type 0) (hs : List Head) → Each P hs → Each P (untilFault n m hs)
+  unfolding untilFault
+  until-each P [] l = tt
+  until-each P (h ∷ hs) l = go (eqb (faultOf n m h) 0) (until-each P hs (l .1))
+    where
+      go : (b : Bool) → Each P (untilFault n m hs) → Each P (cond b (h ∷ untilFault n m hs) [])
+      go true r = (l .0, r)
+      go false r = tt
+
+  -- no fault has the number 0
+  fault-number : (hs : List Head) (f : Fault) → clumpFault n m hs ≡ some f → f .number ≡ 0 → ⊥
+  fault-number [] f e z = some-none e (clump-end n m)
+  fault-number (h ∷ hs) f e z = go (faultOf n m h) refl (λ p. fault-number hs f p z)
+    where
+      go : (k : ℕ) → faultOf n m h ≡ k → (clumpFault n m hs ≡ some f → ⊥) → ⊥
+      go zero p ih = ih (sym (clump-pass n m h hs p) ∙ e)
+      go (suc k) p ih =
+          let q = clump-hit n m h hs (suc k) (sym p) (λ x. omega arith) in
+          let i : suc k ≡ f .number = cc in
+          omega arith
 
 -- the totals
 total-more : (k t : ℕ) (h : Head) (hs : List Head) → plus k t h + totalOf t hs ≡ k + totalOf t (h ∷ hs)
@@ -213,13 +255,12 @@ mores-second s (h ∷ hs) l e f = go (isPending h) refl (mores-second (more s h)
         ∙ rw p
     go false p ih = ih (rw p e) unmarked ∙ rw p
 
--- no fault has the number 0
 abbrev pub numberOf : Option Fault → ℕ
 numberOf none = 0
 numberOf (some f) = f .number
 
--- The state after the clumps hs, whatever beginning of the walk they are: the first of the faults 1 to 3 and its place; and where there is
--- none, the first and the second unfinished clump, whether a FREE clump came last, whether two touched, and the five totals.
+-- what is seen of clumps that have no fault: the first and the second that are unfinished, whether a FREE one came last, whether two
+-- touched, and the five totals
 pub record Sees (hs : List Head) (s : Seen) : Type 0 where
   pub first-is : s .first ≡ offsetOf 0 (seek isPending hs)
   pub second-is : s .second ≡ placeOf (secondFault hs)
@@ -227,11 +268,11 @@ pub record Sees (hs : List Head) (s : Seen) : Type 0 where
   pub touched-is : s .touched ≡ touching hs
   pub totals-are : s .totals ≡ totalsFor (granted 0 []) hs
 
+-- the state after the clumps hs: the first of the faults 1 to 3 with its place, and what is seen of the clumps before it
 pub record After (n : ℕ) (m : Mem) (hs : List Head) (s : Seen) : Type 0 where
   pub fault-is : s .fault ≡ numberOf (clumpFault n m hs)
   pub place-is : s .place ≡ placeOf (clumpFault n m hs)
-  pub numbered : s .fault ≡ 0 → clumpFault n m hs ≡ none
-  pub sees : clumpFault n m hs ≡ none → Sees hs s
+  pub sees : Sees (untilFault n m hs) s
 
 mores-sees : (hs : List Head) → Each Low hs → Sees hs (mores nothing hs)
 unfolding secondFault
@@ -249,19 +290,28 @@ unfolding mores
 mores-fault s [] = (refl, refl)
 mores-fault s (h ∷ hs) = mores-fault (more s h) hs
 
-each-after : (n : ℕ) (m : Mem) (hs : List Head) → Each Low hs → After n m hs (seen n m hs)
-each-after n m hs l = go (came n m nothing hs refl)
-  where
-    go : Came n m nothing hs → After n m hs (seen n m hs)
-    go (sound p q) =
-        record {
-          fault-is = ap (λ (s : Seen). s .fault) q ∙ mores-fault nothing hs .0 ∙ rw p;
-          place-is = ap (λ (s : Seen). s .place) q ∙ mores-fault nothing hs .1 ∙ rw p;
-          numbered = λ z. p;
-          sees = λ e. subst (Sees hs) (sym q) (mores-sees hs l);
-        }
-    go (fault f p x q r) =
-        record { fault-is = q ∙ rw p; place-is = r ∙ rw p; numbered = λ z. absurd (x (sym q ∙ z)); sees = λ e. some-none p e }
-
+-- whatever beginning of the walk they are
 pub seen-after : (n : ℕ) (m : Mem) (hs rest : List Head) → walk n m ≡ hs ++ rest → After n m hs (seen n m hs)
-seen-after n m hs rest e = each-after n m hs (each-left Low hs rest (subst (Each Low) e (walk-low n m)))
+seen-after n m hs rest e =
+    let l = until-each n m Low hs (each-left Low hs rest (subst (Each Low) e (walk-low n m))) in
+    subst (After n m hs) (sym (comes-to n m nothing hs refl)) (go (clumpFault n m hs) refl (mores-sees (untilFault n m hs) l))
+  where
+    go : (o : Option Fault) → clumpFault n m hs ≡ o → Sees (untilFault n m hs) (mores nothing (untilFault n m hs)) → After n m hs (ended (clumpFault n m hs) (mores nothing (untilFault n m hs)))
+    go none p w =
+        let z = mores-fault nothing (untilFault n m hs) in
+        rw p (record { fault-is = rw p (z .0); place-is = rw p (z .1); sees = w })
+    go (some f) p w =
+        rw p
+        (record {
+          fault-is = rw p refl;
+          place-is = rw p refl;
+          sees = record { first-is = w .first-is; second-is = w .second-is; free-is = w .free-is; touched-is = w .touched-is; totals-are = w .totals-are };
+        })
+
+-- without a fault, that is all of them
+pub after-sound : {n : ℕ} {m : Mem} {hs : List Head} {s : Seen} → After n m hs s → s .fault ≡ 0 → (clumpFault n m hs ≡ none) × Sees hs s
+after-sound {n} {m} {hs} {s} a z = go (clumpFault n m hs) refl
+  where
+    go : (o : Option Fault) → clumpFault n m hs ≡ o → (clumpFault n m hs ≡ none) × Sees hs s
+    go none p = (p, subst (λ (q : List Head). Sees q s) (until-none n m hs p) (a .sees))
+    go (some f) p = absurd (fault-number n m hs f p (sym (a .fault-is ∙ ap numberOf p) ∙ z))

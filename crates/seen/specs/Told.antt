@@ -21,7 +21,7 @@ use Rattle.laws.specs.Walking.{Inside}
 use Rattle.walk.specs.Scans.{offset-some, offset-inside}
 use Rattle.seen.specs.declared.Seen.{Seen}
 use Rattle.seen.specs.States.{seen}
-use Rattle.seen.specs.Beginnings.{placeOf, numberOf, Sees, After, seen-after}
+use Rattle.seen.specs.Beginnings.{placeOf, numberOf, Sees, After, seen-after, after-sound}
 
 -- an offset that is 0 where nothing was found: the clumps lie above it
 mark-none : (p : Head → Bool) (hs : List Head) → Each Low hs → offsetOf 0 (seek p hs) ≡ 0 → seek p hs ≡ none
@@ -74,10 +74,10 @@ module _ (n : ℕ) (m : Mem) (r : Seen) (e : r ≡ seen n m (walk n m)) where
 
   module _ (z : r .fault ≡ 0) where
     clean : clumpFault n m (walk n m) ≡ none
-    clean = after .numbered z
+    clean = after-sound after z .0
 
     sees : Sees (walk n m) r
-    sees = after .sees clean
+    sees = after-sound after z .1
 
     low : Each Low (those isPending (walk n m))
     low = those-each Low isPending (walk n m) (walk-low n m)

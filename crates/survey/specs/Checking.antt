@@ -1,4 +1,4 @@
--- Check's contract, and the laws of the survey, of the totals and of check. Assumes nothing.
+-- The contracts of check and of the tests 1 and 2, and the laws of the survey and of check. Assumes nothing.
 use Prim.Native.Nat.{ℕ}
 use mathlib.Core.Path.{_≡_, refl, sym, ap, _∙_}
 use mathlib.Core.Bool.{Bool, true, false, cond, not, _||_}

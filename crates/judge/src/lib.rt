@@ -1,5 +1,5 @@
 // The judging of a pool: one walk over the clumps, on any bytes, and the five faults in their order, read off what it has seen. Only fault 5
-// walks again, for a target that lies in no static area.
+// walks again, and only for a target that is not in the static area.
 ghost use mathlib.Core.Path.{_≡_};
 ghost use Prim.Native.Nat.{_%_, _<_};
 ghost use lib.ListN.{length};
@@ -28,7 +28,7 @@ fn see_clump(img: &[u8], s: Seen, h: usize) -> Seen
     ensures { λ r. ⌜ r ≡ takes (faultOf (length (now (img .entry))) (mem (now (img .entry))) (head (mem (now (img .entry))) h)) s (head (mem (now (img .entry))) h) ⌝ }
 {
     let n = img.len();
-    if n - h < 128 {
+    if ((n - h) as u64) < Clump::LEAST {
         return seen::fail(s, h, 1);
     }
     let c = Clump::read(img, h);

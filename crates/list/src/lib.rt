@@ -114,7 +114,7 @@ fn withdraw_at(img: &mut [u8], h: usize, offset: u64, fuse: u64) -> Answer
     ensures { λ r. ⌜ Acts (now (img .entry)) (withdraw (mem (now (img .entry))) offset (head (mem (now (img .entry))) h)) fuse (now (img .exit)) r ⌝ }
 {
     let c = Clump::read(img, h);
-    if !seen::waits(c.state) {
+    if !seen::header::waits(c.state) {
         return answer::refusal(Answer::WRONG_STATE);
     }
     let l = Clump::list(img, h);

@@ -13,7 +13,7 @@ use Rattle.rules.specs.declared.Totals.{Totals}
 use Rattle.rules.specs.Lists.{seek, those, Each}
 use Rattle.rules.specs.Words.{Mem}
 use Rattle.rules.specs.Clumps.{Head, hasState, isFree, isPending, offsetOf, walk, FREE, RESERVED, ACTIVATING, ACTIVE, FREEING}
-use Rattle.rules.specs.Sound.{Fault, faultAt, faultOf, clumpFault, second, secondFault, startsFree, touching}
+use Rattle.rules.specs.Sound.{Fault, faultOf, clumpFault, second, secondFault, startsFree, touching}
 use Rattle.rules.specs.Answers.{granted, bytesOf, totalOf, totalsFor}
 use Rattle.laws.specs.Searches.{some-none, seek-hit, seek-pass, seek-nil, each-left}
 use Rattle.laws.specs.Walks.{Low, walk-low, clump-hit, clump-pass, clump-end}

@@ -1,18 +1,15 @@
-// What one walk over the clumps has seen: a small state that goes by value from clump to clump, and the tests of one clump by its header.
-// Holds no image and asks for none: the length and one header's words are enough, so that they may also come a block at a time.
+// What one walk over the clumps has seen: a small state that goes by value from clump to clump. Holds no image and asks for none: the
+// length and one header's words are enough, so that they may also come a block at a time.
 ghost use mathlib.Core.Path.{_≡_};
-ghost use mathlib.Core.Bool.{_||_};
 ghost use Prim.Native.Nat.{_+_, _<_, _≤_};
-ghost use lib.Dec.{eqb};
 ghost use Rattle.rules.specs.Words.{wordValues};
-ghost use Rattle.rules.specs.Clumps.{ACTIVATING, FREEING, RESERVED, ACTIVE};
-ghost use Rattle.rules.specs.Sound.{sizeBad, inPlace};
+ghost use Rattle.rules.specs.Clumps.{FREEING};
 ghost use Rattle.page.specs.Forms.{headOf};
-ghost use Rattle.seen.specs.Forms.{gapsIn, listBadIn, faultIn};
+ghost use Rattle.seen.specs.Forms.{faultIn};
 ghost use Rattle.seen.specs.States.{UpTo, nothing, broken, added, met, more, takes};
-use page::CLUMPS_AT;
-use page::STATIC_AT;
-use page::STATIC_END;
+
+pub mod header;
+
 use page::clump::Clump;
 use rules::Totals;
 
@@ -26,115 +23,6 @@ pub struct Seen {
     pub free: bool,
     pub touched: bool,
     pub totals: Totals,
-}
-
-// Fault 1, of a header that lies in an image of n bytes.
-fn size_bad(n: usize, h: usize, c: Clump) -> bool
-    requires { ⌜ h ≤ n ⌝ }
-    ensures { λ r. ⌜ r ≡ sizeBad n (headOf h c) ⌝ }
-{
-    if c.nbytes % 64 != 0 {
-        return true;
-    }
-    if c.nbytes < Clump::LEAST {
-        return true;
-    }
-    ((n - h) as u64) < c.nbytes
-}
-
-// Whether the list of a clump in that state waits: RESERVED or ACTIVE.
-pub fn waits(state: u64) -> bool
-    ensures { λ r. ⌜ r ≡ (eqb state RESERVED || eqb state ACTIVE) ⌝ }
-{
-    if state == Clump::RESERVED {
-        return true;
-    }
-    state == Clump::ACTIVE
-}
-
-// Whether a clump in that state is unfinished: ACTIVATING or FREEING.
-fn pending(state: u64) -> bool
-    ensures { λ r. ⌜ r ≡ (eqb state ACTIVATING || eqb state FREEING) ⌝ }
-{
-    if state == Clump::ACTIVATING {
-        return true;
-    }
-    state == Clump::FREEING
-}
-
-fn in_place(n: usize, t: u64) -> bool
-    ensures { λ r. ⌜ r ≡ inPlace n t ⌝ }
-{
-    if t % 8 != 0 {
-        return false;
-    }
-    if walk::word_lies(STATIC_AT, STATIC_END, t) {
-        return true;
-    }
-    walk::word_lies(CLUMPS_AT as u64, n as u64, t)
-}
-
-// Whether the entry is empty or its target in place.
-fn entry_in_place(n: usize, t: u64) -> bool
-    ensures { λ r. ⌜ r ≡ (eqb t 0 || inPlace n t) ⌝ }
-{
-    if t == 0 {
-        return true;
-    }
-    in_place(n, t)
-}
-
-// Whether a used entry stands after an empty one, by the three targets.
-fn gaps(t0: u64, t1: u64, t2: u64) -> bool
-    ensures { λ r. ⌜ r ≡ gapsIn t0 t1 t2 ⌝ }
-{
-    if t0 == 0 {
-        if t1 != 0 {
-            return true;
-        }
-        return t2 != 0;
-    }
-    if t1 == 0 {
-        return t2 != 0;
-    }
-    false
-}
-
-// Fault 3, of the list of a clump whose list waits.
-fn list_bad(n: usize, l: [[u64; 2]; 3]) -> bool
-    ensures { λ r. ⌜ r ≡ listBadIn n l ⌝ }
-{
-    if gaps(l[0][0], l[1][0], l[2][0]) {
-        return true;
-    }
-    let mut i: usize = 0;
-    while i < 3 {
-        if !entry_in_place(n, l[i][0]) {
-            return true;
-        }
-        i += 1;
-    }
-    false
-}
-
-// The first of the faults 1 to 3 in the clump at h, 0 for none.
-fn fault_of(n: usize, h: usize, c: Clump, l: [[u64; 2]; 3]) -> u64
-    requires { ⌜ h ≤ n ⌝ }
-    ensures { λ r. ⌜ r ≡ faultIn n l (headOf h c) ⌝ }
-{
-    if size_bad(n, h, c) {
-        return 1;
-    }
-    if Clump::FREEING < c.state {
-        return 2;
-    }
-    if !waits(c.state) {
-        return 0;
-    }
-    if list_bad(n, l) {
-        return 3;
-    }
-    0
 }
 
 // Before the first clump.
@@ -209,7 +97,7 @@ fn meet(s: Seen, h: usize, c: Clump) -> Seen
         return t;
     }
     t.free = false;
-    if !pending(c.state) {
+    if !header::pending(c.state) {
         return t;
     }
     if s.first == 0 {
@@ -242,7 +130,7 @@ pub fn take(s: Seen, n: usize, h: usize, c: Clump, l: [[u64; 2]; 3]) -> Seen
     requires { ⌜ UpTo h (s .totals) ⌝ }
     ensures { λ r. ⌜ r ≡ takes (faultIn n l (headOf h c)) s (headOf h c) ⌝ }
 {
-    let f = fault_of(n, h, c, l);
+    let f = header::fault_of(n, h, c, l);
     if f != 0 {
         return fail(s, h, f);
     }

@@ -143,7 +143,7 @@ fn free_at(img: &mut [u8], h: usize, below: usize, offset: u64, fuse: u64) -> An
     ensures { λ r. ⌜ Acts (now (img .entry)) (free (mem (now (img .entry))) (clumpsOf (now (img .entry))) offset (head (mem (now (img .entry))) h)) fuse (now (img .exit)) r ⌝ }
 {
     let c = Clump::read(img, h);
-    if !seen::waits(c.state) {
+    if !seen::header::waits(c.state) {
         return answer::refusal(Answer::WRONG_STATE);
     }
     let l = Clump::list(img, h);

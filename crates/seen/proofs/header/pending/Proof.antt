@@ -1,8 +1,8 @@
 -- `pending`: ACTIVATING or FREEING, one after the other. Assumes nothing.
 use Rattle.rules.specs.Clumps.{ACTIVATING, FREEING}
 use Rattle.seen.specs.Judging.{state-first, state-second}
-use Rattle.seen.proofs.pending.Statement.{statement}
-use Rattle.seen.proofs.pending.Tie as tie
+use Rattle.seen.proofs.header.pending.Statement.{statement}
+use Rattle.seen.proofs.header.pending.Tie as tie
 
 returns : tie.Need-returns
 returns c = state-first _ ACTIVATING FREEING (c .if1 .taken)

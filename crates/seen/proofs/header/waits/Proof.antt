@@ -1,8 +1,8 @@
 -- `waits`: RESERVED or ACTIVE, one after the other. Assumes nothing.
 use Rattle.rules.specs.Clumps.{RESERVED, ACTIVE}
 use Rattle.seen.specs.Judging.{state-first, state-second}
-use Rattle.seen.proofs.waits.Statement.{statement}
-use Rattle.seen.proofs.waits.Tie as tie
+use Rattle.seen.proofs.header.waits.Statement.{statement}
+use Rattle.seen.proofs.header.waits.Tie as tie
 
 returns : tie.Need-returns
 returns c = state-first _ RESERVED ACTIVE (c .if1 .taken)

@@ -3,8 +3,8 @@ use mathlib.Core.Path.{sym, _∙_}
 use borrow.Author.Tests.{eq-eqb, ne-eqb}
 use Rattle.rules.specs.Sound.{inPlace}
 use borrow.Author.Needs.{needs}
-use Rattle.seen.proofs.in_place.Statement.{statement}
-use Rattle.seen.proofs.in_place.Tie as tie
+use Rattle.seen.proofs.header.in_place.Statement.{statement}
+use Rattle.seen.proofs.header.in_place.Tie as tie
 
 returns : tie.Need-returns
 unfolding inPlace

@@ -1,8 +1,8 @@
 -- `gaps`: by the first two targets. Assumes nothing.
 use mathlib.Core.Bool.{or-self}
 use borrow.Author.Tests.{eq-eqb, ne-eqb}
-use Rattle.seen.proofs.gaps.Statement.{statement}
-use Rattle.seen.proofs.gaps.Tie as tie
+use Rattle.seen.proofs.header.gaps.Statement.{statement}
+use Rattle.seen.proofs.header.gaps.Tie as tie
 
 returns : tie.Need-returns
 returns c = rw (eq-eqb _ _ (c .before .if1 .taken), ne-eqb _ _ (c .if2 .taken))

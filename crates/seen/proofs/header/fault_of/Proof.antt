@@ -4,8 +4,8 @@ use mathlib.Core.Bool.{true, false}
 use borrow.Author.Tests.{not-true, not-false}
 use Rattle.seen.specs.Judging.{fault-size, fault-state, fault-idle, fault-list}
 use borrow.Author.Needs.{needs}
-use Rattle.seen.proofs.fault_of.Statement.{statement}
-use Rattle.seen.proofs.fault_of.Tie as tie
+use Rattle.seen.proofs.header.fault_of.Statement.{statement}
+use Rattle.seen.proofs.header.fault_of.Tie as tie
 
 size-bad-requires : tie.Need-size-bad-requires
 size-bad-requires c κs = search needs

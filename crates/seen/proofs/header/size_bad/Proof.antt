@@ -1,8 +1,8 @@
 -- `size_bad`: a law for each way out. Assumes nothing.
 use Rattle.seen.specs.Judging.{size-odd, size-small, size-room}
 use borrow.Author.Needs.{needs}
-use Rattle.seen.proofs.size_bad.Statement.{statement}
-use Rattle.seen.proofs.size_bad.Tie as tie
+use Rattle.seen.proofs.header.size_bad.Statement.{statement}
+use Rattle.seen.proofs.header.size_bad.Tie as tie
 
 returns : tie.Need-returns
 returns c = size-odd _ _ (c .if1 .taken)

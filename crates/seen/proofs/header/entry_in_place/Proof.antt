@@ -1,8 +1,8 @@
 -- `entry_in_place`: by the target. Assumes nothing.
 use borrow.Author.Tests.{eq-eqb, ne-eqb}
 use borrow.Author.Needs.{needs}
-use Rattle.seen.proofs.entry_in_place.Statement.{statement}
-use Rattle.seen.proofs.entry_in_place.Tie as tie
+use Rattle.seen.proofs.header.entry_in_place.Statement.{statement}
+use Rattle.seen.proofs.header.entry_in_place.Tie as tie
 
 returns : tie.Need-returns
 returns c = rw (eq-eqb _ _ (c .if1 .taken))

@@ -13,8 +13,8 @@ use Rattle.page.specs.Forms.{targetOf, listPasses}
 use Rattle.page.specs.Slots.{passes-stop, passes-go, passes-end}
 use Rattle.seen.specs.Forms.{gapsIn}
 use Rattle.seen.specs.Judging.{list-gaps, list-tests}
-use Rattle.seen.proofs.list_bad.Statement.{statement}
-use Rattle.seen.proofs.list_bad.Tie as tie
+use Rattle.seen.proofs.header.list_bad.Statement.{statement}
+use Rattle.seen.proofs.header.list_bad.Tie as tie
 
 abbrev Inv-loop : tie.InvT-loop
 Inv-loop n l i₀ i =

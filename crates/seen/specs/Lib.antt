@@ -2,5 +2,6 @@
 pub mod Forms
 pub mod States
 pub mod Judging
+pub mod Parts
 pub mod Beginnings
 pub mod Told

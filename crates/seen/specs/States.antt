@@ -1,14 +1,18 @@
--- The state of the one walk, and what each clump makes of it. A second way to compute what 01 says of the whole walk: the definitions to
--- believe are the rules', and `Beginnings` proves that this is what they say. It goes by one clump at a time, its header and its fault.
--- Assumes nothing.
+-- The state of the one walk, what each clump makes of it, and what it is to be after any beginning of the clumps (`After`). A second way
+-- to compute what 01 says of the whole walk: the definitions to believe are the rules', and `Beginnings` and `Told` prove that it is what
+-- they say. It goes by one clump at a time, its header and its fault. Assumes nothing.
 use Prim.Native.Nat.{ℕ, _+_, _≤_}
-use mathlib.Core.Bool.{false, cond, not, _&&_, _||_}
+use mathlib.Core.Path.{_≡_}
+use mathlib.Core.Bool.{Bool, false, cond, not, _&&_, _||_}
+use mathlib.Core.Option.{Option, some, none}
 use mathlib.Core.List.{List, [], _∷_}
 use lib.Dec.{eqb}
 use Rattle.rules.specs.declared.Totals.{Totals}
+use Rattle.rules.specs.Lists.{seek}
 use Rattle.rules.specs.Words.{Mem}
-use Rattle.rules.specs.Clumps.{Head, hasState, FREE, RESERVED, ACTIVATING, ACTIVE, FREEING, isFree, isPending}
-use Rattle.rules.specs.Sound.{faultOf}
+use Rattle.rules.specs.Clumps.{Head, hasState, FREE, RESERVED, ACTIVATING, ACTIVE, FREEING, isFree, isPending, offsetOf}
+use Rattle.rules.specs.Sound.{Fault, faultOf, clumpFault, secondFault, touching}
+use Rattle.rules.specs.Answers.{granted, totalsFor}
 use Rattle.seen.specs.declared.Seen.{Seen}
 
 -- each of the totals is at most k
@@ -85,3 +89,37 @@ seenFrom n m s (h ∷ hs) = cond (eqb (s .fault) 0) (seenFrom n m (takes (faultO
 -- what is seen of the clumps hs, a beginning of the walk or the whole
 abbrev pub seen : ℕ → Mem → List Head → Seen
 seen n m hs = seenFrom n m nothing hs
+
+-- the clumps before the first that has one of the faults 1 to 3
+unfoldable pub untilFault : ℕ → Mem → List Head → List Head
+untilFault n m [] = []
+untilFault n m (h ∷ hs) = cond (eqb (faultOf n m h) 0) (h ∷ untilFault n m hs) []
+
+-- a fault's number and its place, 0 for none
+abbrev pub numberOf : Option Fault → ℕ
+numberOf none = 0
+numberOf (some f) = f .number
+
+abbrev pub placeOf : Option Fault → ℕ
+placeOf none = 0
+placeOf (some f) = f .place
+
+-- whether a FREE clump came last; before the first clump, as told
+abbrev pub endsFree : Bool → List Head → Bool
+endsFree b [] = b
+endsFree b (h ∷ hs) = endsFree (isFree h) hs
+
+-- what is seen of clumps that have no fault: the first and the second that are unfinished, whether a FREE one came last, whether two
+-- touched, and the five totals
+pub record Sees (hs : List Head) (s : Seen) : Type 0 where
+  pub first-is : s .first ≡ offsetOf 0 (seek isPending hs)
+  pub second-is : s .second ≡ placeOf (secondFault hs)
+  pub free-is : s .free ≡ endsFree false hs
+  pub touched-is : s .touched ≡ touching hs
+  pub totals-are : s .totals ≡ totalsFor (granted 0 []) hs
+
+-- the state after the clumps hs: the first of the faults 1 to 3 with its place, and what is seen of the clumps before it
+pub record After (n : ℕ) (m : Mem) (hs : List Head) (s : Seen) : Type 0 where
+  pub fault-is : s .fault ≡ numberOf (clumpFault n m hs)
+  pub place-is : s .place ≡ placeOf (clumpFault n m hs)
+  pub sees : Sees (untilFault n m hs) s

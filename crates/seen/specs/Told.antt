@@ -20,8 +20,8 @@ use Rattle.laws.specs.Walks.{Low, walk-low, rest-start, rest-end, clumps-tile, 
 use Rattle.laws.specs.Walking.{Inside}
 use Rattle.walk.specs.Scans.{offset-some, offset-inside}
 use Rattle.seen.specs.declared.Seen.{Seen}
-use Rattle.seen.specs.States.{seen}
-use Rattle.seen.specs.Beginnings.{placeOf, numberOf, Sees, After, seen-after, after-sound}
+use Rattle.seen.specs.States.{seen, numberOf, placeOf, Sees, After}
+use Rattle.seen.specs.Beginnings.{seen-after, after-sound}
 
 -- an offset that is 0 where nothing was found: the clumps lie above it
 mark-none : (p : Head → Bool) (hs : List Head) → Each Low hs → offsetOf 0 (seek p hs) ≡ 0 → seek p hs ≡ none

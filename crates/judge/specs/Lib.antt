@@ -1,3 +1,3 @@
--- What the contracts of `judge` cite beside the rules, and the laws of its one walk.
+-- What the contracts of `judge` cite beside the rules, and what its enum tells.
 pub mod Forms
 pub mod Judging

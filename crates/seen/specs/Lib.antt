@@ -5,3 +5,4 @@ pub mod Judging
 pub mod Parts
 pub mod Beginnings
 pub mod Told
+pub mod Seeing

@@ -4,7 +4,7 @@ use Prim.Native.Nat.{_-_}
 use lib.ListN.{length}
 use native.Mathlib.Omega.{arith}
 use Rattle.rules.specs.Words.{mem}
-use Rattle.judge.specs.Judging.{Seeing, seeing-start, seeing-end, seeing-stop, seeing-clump, seeing-move}
+use Rattle.seen.specs.Seeing.{Seeing, seeing-start, seeing-end, seeing-stop, seeing-clump, seeing-move}
 use Rattle.judge.proofs.see.Statement.{statement}
 use Rattle.judge.proofs.see.Tie as tie
 

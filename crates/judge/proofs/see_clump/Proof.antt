@@ -2,7 +2,7 @@
 use native.Mathlib.Omega.{arith}
 use mathlib.Core.Path.{_∙_}
 use Rattle.rules.specs.Words.{mem}
-use Rattle.judge.specs.Judging.{clump-short, clump-read}
+use Rattle.seen.specs.Seeing.{clump-short, clump-read}
 use borrow.Author.Needs.{needs}
 use Rattle.judge.proofs.see_clump.Statement.{statement}
 use Rattle.judge.proofs.see_clump.Tie as tie

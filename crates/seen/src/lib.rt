@@ -14,7 +14,7 @@ use page::clump::Clump;
 use rules::Totals;
 
 // The first of the faults 1 to 3 and its place; the first unfinished clump and the second; whether a FREE clump came last, and whether
-// two touched; and the bytes in each state. 0 stands for no fault and for no clump. Once there is a fault nothing changes any more.
+// two touched; and the bytes in each state. 0 stands for no fault and for no clump. A walk ends at its first fault.
 pub struct Seen {
     pub fault: u64,
     pub place: usize,

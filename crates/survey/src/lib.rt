@@ -1,4 +1,5 @@
-// The survey that every request begins with, and the public request check. Both take any bytes, and walk over the clumps once.
+// The survey that every request begins with, and the public request check. Both take any bytes, and walk over the clumps once, but for the
+// targets of an unfinished clump.
 ghost use mathlib.Core.Path.{_≡_};
 ghost use mathlib.Core.Bool.{not, _||_};
 ghost use mathlib.Core.List.{[]};

@@ -1,14 +1,14 @@
-// Onactive, onfree and withdraw: the on-list of a clump. Each takes any bytes, any numbers and any fuse.
+// Onactive and onfree: a new entry in the on-list of a clump. Each takes any bytes, any numbers and any fuse.
 ghost use mathlib.Core.Path.{_≡_};
 ghost use Prim.Native.Nat.{_+_, _%_, _≤_, _<_};
 ghost use lib.ListN.{length};
-ghost use Rattle.rules.specs.declared.Request.the-variants.{Onactive, Onfree, Withdraw};
+ghost use Rattle.rules.specs.declared.Request.the-variants.{Onactive, Onfree};
 ghost use Rattle.rules.specs.Words.{wordBytes, wordValues, mem};
 ghost use Rattle.rules.specs.Clumps.{head, headerBytes};
-ghost use Rattle.rules.specs.Requests.{enlist, withdraw, Does};
+ghost use Rattle.rules.specs.Requests.{enlist, Does};
 ghost use Rattle.rules.specs.Reading.{clumpsOf, Tiled};
 ghost use Rattle.steps.specs.Acts.{Acts};
-ghost use Rattle.list.specs.Slots.{emptyIn, lastIn};
+ghost use Rattle.list.specs.Slots.{emptyIn};
 use page::clump::Clump;
 use rules::Answer;
 use walk::Found;
@@ -27,23 +27,6 @@ fn empty_slot(h: usize, l: [[u64; 2]; 3]) -> usize
     }
     if l[2][0] == 0 {
         return h + 48;
-    }
-    0
-}
-
-// The target word of the last used entry of the clump at h, or 0 where the list is empty.
-fn last_slot(h: usize, l: [[u64; 2]; 3]) -> usize
-    requires { ⌜ h + headerBytes < wordValues ⌝ }
-    ensures { λ r. ⌜ r ≡ lastIn h l ⌝ }
-{
-    if l[2][0] != 0 {
-        return h + 48;
-    }
-    if l[1][0] != 0 {
-        return h + 32;
-    }
-    if l[0][0] != 0 {
-        return h + 16;
     }
     0
 }
@@ -105,37 +88,4 @@ pub fn onfree(img: &mut [u8], offset: u64, target: u64, value: u64, fuse: u64) -
         return answer::refusal(Answer::NO_CLUMP);
     };
     enlist_at(img, h, Clump::ACTIVE, offset, target, value, fuse)
-}
-
-// The last used entry of the clump at h emptied.
-fn withdraw_at(img: &mut [u8], h: usize, offset: u64, fuse: u64) -> Answer
-    requires { ⌜ h + headerBytes ≤ length (now img) ⌝ }
-    requires { ⌜ h % wordBytes ≡ 0 ⌝ }
-    ensures { λ r. ⌜ Acts (now (img .entry)) (withdraw (mem (now (img .entry))) offset (head (mem (now (img .entry))) h)) fuse (now (img .exit)) r ⌝ }
-{
-    let c = Clump::read(img, h);
-    if !seen::header::waits(c.state) {
-        return answer::refusal(Answer::WRONG_STATE);
-    }
-    let l = Clump::list(img, h);
-    let s = last_slot(h, l);
-    if s == 0 {
-        return answer::refusal(Answer::LIST_EMPTY);
-    }
-    let p = Power::new(fuse);
-    let p1 = word::store(img, p, s, 0);
-    answer::finish(p1, offset)
-}
-
-pub fn withdraw(img: &mut [u8], offset: u64, fuse: u64) -> Answer
-    ensures { λ r. ⌜ Does (now (img .entry)) (Withdraw offset) fuse (now (img .exit)) r ⌝ }
-{
-    let a = survey::survey(img);
-    if a.answer != Answer::DONE {
-        return a;
-    }
-    let Found::At(h, _) = walk::find(img, offset) else {
-        return answer::refusal(Answer::NO_CLUMP);
-    };
-    withdraw_at(img, h, offset, fuse)
 }

@@ -39,7 +39,7 @@ pub fn onfree(img: &mut [u8], offset: u64, target: u64, value: u64, fuse: u64) -
 pub fn withdraw(img: &mut [u8], offset: u64, fuse: u64) -> Answer
     ensures { λ r. ⌜ Does (now (img .entry)) (Withdraw offset) fuse (now (img .exit)) r ⌝ }
 {
-    list::withdraw(img, offset, fuse)
+    unlist::withdraw(img, offset, fuse)
 }
 
 // The RESERVED clump made ACTIVE, with its assignments.
@@ -53,7 +53,7 @@ pub fn activate(img: &mut [u8], offset: u64, fuse: u64) -> Answer
 pub fn free(img: &mut [u8], offset: u64, fuse: u64) -> Answer
     ensures { λ r. ⌜ Does (now (img .entry)) (Free offset) fuse (now (img .exit)) r ⌝ }
 {
-    turn::free(img, offset, fuse)
+    release::free(img, offset, fuse)
 }
 
 // Whether the image is a sound pool, and how many bytes are in each state. It stores nothing, so that it takes no fuse.

@@ -1,2 +1,2 @@
--- What the contracts of `turn` cite beside the rules, and the laws of activate and free.
+-- The laws of activate.
 pub mod Turns

@@ -1,11 +1,11 @@
 -- `release`: the bytes of the clumps beside are read before the first store; then three runs, one after the other. Assumes nothing.
-use Rattle.turn.specs.Turns.{release-acts, next-header, below-header, below-word, sum-room}
+use Rattle.release.specs.Releases.{release-acts, next-header, below-header, below-word, sum-room}
 use Rattle.walk.specs.Scans.{list-in}
 use native.Mathlib.Omega.{arith}
 use mathlib.Core.Path.{_∙_}
 use borrow.Author.Needs.{needs}
-use Rattle.turn.proofs.release.Statement.{statement}
-use Rattle.turn.proofs.release.Tie as tie
+use Rattle.release.proofs.release.Statement.{statement}
+use Rattle.release.proofs.release.Tie as tie
 
 add-free-bytes : tie.Need-add-free-bytes
 add-free-bytes c = search needs

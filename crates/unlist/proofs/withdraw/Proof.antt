@@ -8,8 +8,8 @@ use Rattle.walk.specs.Scans.{found-none, found-some}
 use Rattle.steps.specs.Acts.{stopped-does, settled-tiles, missing-does, found-does}
 use Rattle.rules.specs.declared.Request.the-variants.{Withdraw}
 use borrow.Author.Needs.{needs}
-use Rattle.list.proofs.withdraw.Statement.{statement}
-use Rattle.list.proofs.withdraw.Tie as tie
+use Rattle.unlist.proofs.withdraw.Statement.{statement}
+use Rattle.unlist.proofs.withdraw.Tie as tie
 
 survey-requires : tie.Need-survey-requires
 survey-requires c κs = search needs

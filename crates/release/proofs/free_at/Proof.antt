@@ -5,10 +5,10 @@ use Rattle.rules.specs.Words.{mem}
 use Rattle.rules.specs.Clumps.{head}
 use Rattle.rules.specs.Reading.{clumpsOf}
 use Rattle.steps.specs.Acts.{acts-same, acts-refused}
-use Rattle.turn.specs.Turns.{may-drop, drop-valid, free-state, free-bad, free-done}
+use Rattle.release.specs.Releases.{may-drop, drop-valid, free-state, free-bad, free-done}
 use borrow.Author.Needs.{needs}
-use Rattle.turn.proofs.free_at.Statement.{statement}
-use Rattle.turn.proofs.free_at.Tie as tie
+use Rattle.release.proofs.free_at.Statement.{statement}
+use Rattle.release.proofs.free_at.Tie as tie
 
 read-requires : tie.Need-read-requires
 read-requires c κs = search needs

@@ -1,8 +1,8 @@
 -- `last_slot`: the last used entry, by the three targets. Assumes nothing.
 use borrow.Author.Tests.{eq-eqb, ne-eqb}
 use borrow.Author.Needs.{needs}
-use Rattle.list.proofs.last_slot.Statement.{statement}
-use Rattle.list.proofs.last_slot.Tie as tie
+use Rattle.unlist.proofs.last_slot.Statement.{statement}
+use Rattle.unlist.proofs.last_slot.Tie as tie
 
 index-1-if1 : tie.Need-index-1-if1
 index-1-if1 c = search needs

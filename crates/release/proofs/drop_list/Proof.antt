@@ -3,8 +3,8 @@ use borrow.Author.Tests.{eq-eqb, ne-eqb}
 use native.Mathlib.Omega.{arith}
 use Rattle.word.specs.Runs.{ran-then}
 use borrow.Author.Needs.{needs}
-use Rattle.turn.proofs.drop_list.Statement.{statement}
-use Rattle.turn.proofs.drop_list.Tie as tie
+use Rattle.release.proofs.drop_list.Statement.{statement}
+use Rattle.release.proofs.drop_list.Tie as tie
 
 add-store : tie.Need-add-store
 add-store c = search needs

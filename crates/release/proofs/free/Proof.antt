@@ -7,8 +7,8 @@ use Rattle.walk.specs.Scans.{found-none, found-some}
 use Rattle.steps.specs.Acts.{stopped-does, settled-tiles, missing-does, found-does}
 use Rattle.rules.specs.declared.Request.the-variants.{Free}
 use borrow.Author.Needs.{needs}
-use Rattle.turn.proofs.free.Statement.{statement}
-use Rattle.turn.proofs.free.Tie as tie
+use Rattle.release.proofs.free.Statement.{statement}
+use Rattle.release.proofs.free.Tie as tie
 
 survey-requires : tie.Need-survey-requires
 survey-requires c κs = search needs

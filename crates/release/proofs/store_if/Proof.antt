@@ -2,8 +2,8 @@
 use borrow.Author.Tests.{eq-eqb, ne-eqb}
 use Rattle.word.specs.Runs.{ran-none}
 use borrow.Author.Needs.{needs}
-use Rattle.turn.proofs.store_if.Statement.{statement}
-use Rattle.turn.proofs.store_if.Tie as tie
+use Rattle.release.proofs.store_if.Statement.{statement}
+use Rattle.release.proofs.store_if.Tie as tie
 
 returns : tie.Need-returns
 returns c = rw (eq-eqb _ _ (c .if1 .taken)) (ran-none _ _)

@@ -1,8 +1,8 @@
 -- `may_drop`: by the state. Assumes nothing.
 use borrow.Author.Tests.{eq-eqb, ne-eqb}
 use borrow.Author.Needs.{needs}
-use Rattle.turn.proofs.may_drop.Statement.{statement}
-use Rattle.turn.proofs.may_drop.Tie as tie
+use Rattle.release.proofs.may_drop.Statement.{statement}
+use Rattle.release.proofs.may_drop.Tie as tie
 
 all-valid-requires : tie.Need-all-valid-requires
 all-valid-requires c κs = search needs

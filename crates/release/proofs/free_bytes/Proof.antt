@@ -1,9 +1,9 @@
 -- `free_bytes`: a law for each way out: the two marks, then the state of the clump that stands there. Assumes nothing.
 use mathlib.Core.Path.{sym, _∙_}
 use Rattle.rules.specs.Words.{mem}
-use Rattle.turn.specs.Turns.{bytes-below, bytes-end, bytes-live, bytes-free}
-use Rattle.turn.proofs.free_bytes.Statement.{statement}
-use Rattle.turn.proofs.free_bytes.Tie as tie
+use Rattle.release.specs.Releases.{bytes-below, bytes-end, bytes-live, bytes-free}
+use Rattle.release.proofs.free_bytes.Statement.{statement}
+use Rattle.release.proofs.free_bytes.Tie as tie
 
 returns : tie.Need-returns
 returns c = bytes-below _ (mem (c .before .before .args .img .now)) _ (c .if1 .taken)

@@ -5,10 +5,10 @@ use borrow.Author.Tests.{not-true, not-false}
 use Rattle.rules.specs.Words.{mem}
 use Rattle.rules.specs.Clumps.{head}
 use Rattle.steps.specs.Acts.{acts-same, acts-refused, acts-ran}
-use Rattle.list.specs.Slots.{withdrawn-is, last-in, withdraw-state, withdraw-empty, withdraw-done}
+use Rattle.unlist.specs.Slots.{withdrawn-is, last-in, withdraw-state, withdraw-empty, withdraw-done}
 use borrow.Author.Needs.{needs}
-use Rattle.list.proofs.withdraw_at.Statement.{statement}
-use Rattle.list.proofs.withdraw_at.Tie as tie
+use Rattle.unlist.proofs.withdraw_at.Statement.{statement}
+use Rattle.unlist.proofs.withdraw_at.Tie as tie
 
 read-requires : tie.Need-read-requires
 read-requires c κs = search needs

@@ -1,0 +1,2 @@
+-- What the contracts of `release` cite beside the rules, and the laws of free.
+pub mod Releases

@@ -1,0 +1,229 @@
+-- The stores of free as the code makes them, that they are the rules', and a law for each way out of free.
+-- Assumes nothing.
+use Prim.Native.Nat.{ℕ, _+_, _%_, _<_, _≤_}
+use mathlib.Core.Path.{_≡_, refl, sym, ap, ap₂, _∙_}
+use mathlib.Core.Bool.{Bool, true, false, cond}
+use mathlib.Core.Option.{Option, some, none}
+use mathlib.Core.List.{List, [], _∷_, _++_}
+use native.Mathlib.Omega.{arith}
+use lib.Dec.{eqb, ltb}
+use lib.ListN.{length}
+use borrow.Author.Tests.{eq-eqb, ne-eqb, eqb-true, eqb-false, lt-ltb, le-ltb, ltb-true}
+use Rattle.rules.specs.Words.{Image, Mem, Store, mem, store, wordBytes, wordValues}
+use Rattle.rules.specs.Clumps.{Head, head, endOf, isWaiting, hasState, stateAt, headerBytes, RESERVED, ACTIVATING, ACTIVE, FREEING, FREE, nextOf, beforeOf, offsetOf}
+use Rattle.rules.specs.Sound.{allValid}
+use Rattle.rules.specs.Answers.{granted, refuse, wrongState, badTarget}
+use Rattle.rules.specs.Stores.{finishActivating, finishFreeing, activateStores, dropStores, ifFree, freeAfter, freeBefore, joinBefore, joinBoth, freeStores}
+use Rattle.rules.specs.Requests.{activate, mayDrop, free}
+use Rattle.rules.specs.Reading.{clumpsOf, Tiled}
+use Rattle.laws.specs.Searches.{seek-split}
+use Rattle.laws.specs.Walking.{seek-placed}
+use Rattle.laws.specs.Neighbours.{if-free, clumpAt, stands-header, next-at, before-at}
+use Rattle.laws.specs.Lying.{Lies, placed-lies}
+use Rattle.page.specs.Forms.{listAt}
+use Rattle.page.specs.declared.clump.Clump.{Clump}
+use Rattle.walk.specs.Forms.{listValid}
+use Rattle.walk.specs.Scans.{Finds, list-valid}
+use Rattle.rules.specs.declared.Answer.{Answer}
+use Rattle.word.specs.declared.Power.{Power}
+use Rattle.word.specs.Runs.{full, Ran, told, ran-then, ran-as}
+use Rattle.steps.specs.Acts.{Acts, acts-ran}
+use Rattle.steps.specs.Lists.{assignsOf, emptiesOf, assigns-are, empties-are}
+
+-- the stores to the clump itself, by its state and the list that was read
+abbrev pub dropOf : ℕ → ℕ → List (List ℕ) → List Store
+dropOf h state l = cond (eqb state ACTIVE) (store (stateAt h) FREEING ∷ (assignsOf l ++ (store (stateAt h) FREE ∷ []))) (store (stateAt h) FREE ∷ [])
+
+-- one store where there is a clump to join, which has bytes
+abbrev pub storeIf : ℕ → ℕ → ℕ → List Store
+storeIf bytes at w = cond (eqb bytes 0) [] (store at w ∷ [])
+
+-- nbytes of a clump, 0 where there is none
+abbrev pub sizeOf : Option Head → ℕ
+sizeOf none = 0
+sizeOf (some k) = k .nbytes
+
+-- nbytes of the clump that stands at an offset, if it is FREE
+abbrev pub freeBytes : ℕ → Mem → ℕ → ℕ
+freeBytes n m at = sizeOf (ifFree (clumpAt n m at))
+
+-- the clump c at h, which has its body at the offset asked about, as the code has it before it is freed
+pub record Releasing (img : Image) (offset h below : ℕ) (c : Clump) (l : List (List ℕ)) : Type 0 where
+  pub tiles : Tiled img
+  pub finds : Finds (length img) (mem img) offset h below
+  pub size : c .nbytes ≡ mem img h
+  pub is : c .state ≡ mem img (stateAt h)
+  pub list : l ≡ listAt (mem img) h
+  pub small : length img < wordValues
+  pub valid : c .state ≡ ACTIVE → listValid (clumpsOf img) l ≡ true
+
+-- free, a law for each way out
+module _ (m : Mem) (hs : List Head) (o : ℕ) (h : Head) where
+  pub free-state : isWaiting h ≡ false → free m hs o h ≡ refuse wrongState
+  unfolding free
+  free-state e = rw e
+
+  pub free-bad : isWaiting h ≡ true → mayDrop m hs h ≡ false → free m hs o h ≡ refuse badTarget
+  unfolding free
+  free-bad e f = rw (e, f)
+
+  pub free-done : isWaiting h ≡ true → mayDrop m hs h ≡ true → free m hs o h ≡ granted o (freeStores m hs h)
+  unfolding free
+  free-done e f = rw (e, f)
+
+-- whether a list may be dropped, by the list that was read
+pub may-drop : (m : Mem) (hs : List Head) (h state : ℕ) (l : List (List ℕ)) → state ≡ m (stateAt h) → l ≡ listAt m h → cond (eqb state ACTIVE) (listValid hs l) true ≡ mayDrop m hs (head m h)
+may-drop m hs h state l e f = rw (e, list-valid m hs h l f)
+
+-- the clumps beside, joined, by their bytes: where there is none there are 0, and every clump has some
+before-are : (y : Option Head) (at w : ℕ) → ((k : Head) → y ≡ some k → (k .at ≡ at) × (0 < k .nbytes)) → joinBefore y w ≡ storeIf (sizeOf y) at (sizeOf y + w)
+before-are none at w f = refl
+before-are (some k) at w f =
+    let x = f k refl in
+    rw (ne-eqb (k .nbytes) 0 (omega (arith, x .1))) (ap (λ (a : ℕ). store a (k .nbytes + w) ∷ []) (x .0))
+
+joins-are :
+    (x y : Option Head) (h : Head) (at : ℕ)
+    → ((k : Head) → x ≡ some k → 0 < k .nbytes)
+    → ((k : Head) → y ≡ some k → (k .at ≡ at) × (0 < k .nbytes))
+    → joinBoth x y h ≡ storeIf (sizeOf x) (h .at) (h .nbytes + sizeOf x) ++ storeIf (sizeOf y) at (sizeOf y + (h .nbytes + sizeOf x))
+joins-are none y h at f g = before-are y at (h .nbytes) g ∙ ap (λ (w : ℕ). storeIf (sizeOf y) at (sizeOf y + w)) (omega arith)
+joins-are (some k) y h at f g =
+    rw (ne-eqb (k .nbytes) 0 (omega (arith, f k refl)))
+    (ap (λ (st : List Store). store (h .at) (h .nbytes + k .nbytes) ∷ st) (before-are y at (h .nbytes + k .nbytes) g))
+
+size-room : (x : Option Head) (a b : ℕ) → a ≤ b → ((k : Head) → x ≡ some k → a + k .nbytes ≤ b) → a + sizeOf x ≤ b
+size-room none a b l f = omega arith
+size-room (some k) a b l f = f k refl
+
+-- the bytes at the two marks, and those of a clump that stands at an offset, by its state
+module _ (n : ℕ) (m : Mem) (a : ℕ) where
+  pub bytes-below : a ≡ 0 → 0 ≡ freeBytes n m a
+  bytes-below e = rw (eq-eqb a 0 e)
+
+  pub bytes-end : (a ≡ 0 → ⊥) → n ≤ a → 0 ≡ freeBytes n m a
+  bytes-end z l = rw (ne-eqb a 0 z, le-ltb a n l)
+
+  pub bytes-live : (a ≡ 0 → ⊥) → a < n → (m (stateAt a) ≡ FREE → ⊥) → 0 ≡ freeBytes n m a
+  bytes-live z l d = rw (ne-eqb a 0 z, lt-ltb a n l, ne-eqb (m (stateAt a)) FREE d)
+
+  pub bytes-free : (a ≡ 0 → ⊥) → a < n → m (stateAt a) ≡ FREE → m a ≡ freeBytes n m a
+  bytes-free z l e = rw (ne-eqb a 0 z, lt-ltb a n l, eq-eqb (m (stateAt a)) FREE e)
+
+-- and where there are bytes one stands
+free-stands : (n : ℕ) (m : Mem) (a : ℕ) → (freeBytes n m a ≡ 0 → ⊥) → (a ≡ 0 → ⊥) × (a < n)
+free-stands n m a f = go (eqb a 0) refl (ltb a n) refl f
+  where
+    go :
+        (b : Bool)
+        → eqb a 0 ≡ b
+        → (d : Bool)
+        → ltb a n ≡ d
+        → (sizeOf (ifFree (cond b none (cond d (some (head m a)) none))) ≡ 0 → ⊥)
+        → (a ≡ 0 → ⊥) × (a < n)
+    go true p d q f = absurd (f refl)
+    go false p true q f = (eqb-false a 0 p, ltb-true a n q)
+    go false p false q f = absurd (f refl)
+
+-- the clump c at h, which is freed: the next one is read at its end, the one before at `below`
+module _ {img : Image} {offset h below : ℕ} {c : Clump} {l : List (List ℕ)} (t : Releasing img offset h below c l) where
+  abbrev this : Head
+  this = head (mem img) h
+
+  abbrev next : ℕ
+  next = sizeOf (freeAfter (clumpsOf img) this)
+
+  abbrev under : ℕ
+  under = sizeOf (freeBefore (clumpsOf img) this)
+
+  -- what was read are their bytes, if they are FREE
+  abbrev next-stands : nextOf (clumpsOf img) this ≡ clumpAt (length img) (mem img) (endOf this)
+  next-stands = next-at (length img) (mem img) (t .tiles) _ this (t .finds .found)
+
+  next-bytes : freeBytes (length img) (mem img) (h + c .nbytes) ≡ next
+  next-bytes = rw (t .size) (ap (λ (o : Option Head). sizeOf (ifFree o)) (sym next-stands))
+
+  abbrev below-stands : beforeOf (clumpsOf img) this ≡ clumpAt (length img) (mem img) below
+  below-stands = before-at (length img) (mem img) (t .tiles) this ∙ ap (clumpAt (length img) (mem img)) (sym (t .finds .under))
+
+  below-bytes : freeBytes (length img) (mem img) below ≡ under
+  below-bytes = ap (λ (o : Option Head). sizeOf (ifFree o)) (sym below-stands)
+
+  -- a clump that stands there has its header in the image
+  pub next-header : (h + c .nbytes ≡ 0 → ⊥) → h + c .nbytes < length img → ((h + c .nbytes) % wordBytes ≡ 0) × (h + c .nbytes + headerBytes ≤ length img)
+  next-header = rw (t .size) (stands-header (length img) (mem img) (t .tiles) _ (endOf this) next-stands)
+
+  pub below-header : (below ≡ 0 → ⊥) → below < length img → (below % wordBytes ≡ 0) × (below + headerBytes ≤ length img)
+  below-header = stands-header (length img) (mem img) (t .tiles) _ below below-stands
+
+  pub below-word : (freeBytes (length img) (mem img) below ≡ 0 → ⊥) → (below % wordBytes ≡ 0) × (below + wordBytes ≤ length img)
+  below-word z =
+      let s = free-stands (length img) (mem img) below z in
+      let i = below-header (s .0) (s .1) in
+      (i .0, omega (arith, i .1))
+
+  -- the FREE ones, by where they stand
+  next-free : (k : Head) → freeAfter (clumpsOf img) this ≡ some k → Lies (length img) k × (k .at ≡ h + c .nbytes)
+  next-free k e =
+      let x = if-free (nextOf (clumpsOf img) this) k e .0 in (
+        placed-lies (length img) (mem img) k (t .small) (seek-placed (length img) (mem img) _ k (t .tiles) x),
+        eqb-true (k .at) (endOf this) (seek-split _ (clumpsOf img) k x .passes) ∙ ap (λ (w : ℕ). h + w) (sym (t .size)),
+      )
+
+  below-free : (k : Head) → freeBefore (clumpsOf img) this ≡ some k → Lies (length img) k × (endOf k ≡ h) × (k .at ≡ below)
+  below-free k e =
+      let x = if-free (beforeOf (clumpsOf img) this) k e .0 in (
+        placed-lies (length img) (mem img) k (t .small) (seek-placed (length img) (mem img) _ k (t .tiles) x),
+        eqb-true (endOf k) h (seek-split _ (clumpsOf img) k x .passes),
+        sym (t .finds .under ∙ ap (offsetOf 0) x),
+      )
+
+  -- the sum of all three stays within the image
+  next-room : h + c .nbytes + freeBytes (length img) (mem img) (h + c .nbytes) ≤ length img
+  next-room =
+      let e = t .size in
+      rw next-bytes
+      (size-room (freeAfter (clumpsOf img) this) (h + c .nbytes) (length img) (omega (arith, t .finds .inside .room)) (λ k q. let x = next-free k q in omega (arith, x .0 .room, x .1)))
+
+  below-room : freeBytes (length img) (mem img) below ≤ h
+  below-room =
+      rw below-bytes
+      (let r = size-room (freeBefore (clumpsOf img) this) 0 h (omega arith) (λ k q. let x = below-free k q in omega (arith, x .1)) in
+      omega arith)
+
+  pub sum-room : (n k : ℕ) → n ≡ freeBytes (length img) (mem img) (h + c .nbytes) → k ≡ freeBytes (length img) (mem img) below → k + (c .nbytes + n) ≤ length img
+  sum-room n k e f = omega (arith, next-room, below-room)
+
+  drops-are : dropOf h (c .state) l ≡ dropStores (mem img) this
+  unfolding dropStores finishFreeing
+  drops-are = rw (t .is, t .list, assigns-are (mem img) h)
+
+  free-stores :
+      dropOf h (c .state) l ++ (storeIf next h (c .nbytes + next) ++ storeIf under below (under + (c .nbytes + next)))
+      ≡ freeStores (mem img) (clumpsOf img) this
+  unfolding freeStores
+  free-stores =
+      rw (t .size)
+      (ap₂ _++_ drops-are
+      (sym (joins-are (freeAfter (clumpsOf img) this) (freeBefore (clumpsOf img) this) this below
+      (λ k q. let x = next-free k q in omega (arith, x .0 .least))
+      (λ k q. let x = below-free k q in (x .2, omega (arith, x .0 .least))))))
+
+  pub release-acts :
+      {x y z : Image} {p q r u : Power} {w : Answer} (n k fuse : ℕ)
+      → n ≡ freeBytes (length img) (mem img) (h + c .nbytes)
+      → k ≡ freeBytes (length img) (mem img) below
+      → p ≡ full fuse
+      → Ran img p (dropOf h (c .state) l) x q
+      → Ran x q (storeIf n h (c .nbytes + n)) y r
+      → Ran y r (storeIf k below (k + (c .nbytes + n))) z u
+      → w ≡ told u offset
+      → Acts img (granted offset (freeStores (mem img) (clumpsOf img) (head (mem img) h))) fuse z w
+  release-acts {u = u} n k fuse e f g a b d i =
+      let e′ = e ∙ next-bytes in
+      let f′ = f ∙ below-bytes in
+      acts-ran {q = u} fuse offset (ran-as _ _ (sym free-stores) (ran-then (rw g at a) (ran-then (rw e′ at b) (rw (f′, e′) at d)))) i
+
+-- an ACTIVE clump that may be dropped has a valid list
+pub drop-valid : (state : ℕ) (b : Bool) → cond (eqb state ACTIVE) b true ≡ true → state ≡ ACTIVE → b ≡ true
+drop-valid state b e f = rw (eq-eqb state ACTIVE f) at e

@@ -1,0 +1,2 @@
+-- What the contracts of `unlist` cite beside the rules, and the laws of withdraw.
+pub mod Slots

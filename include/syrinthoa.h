@@ -53,10 +53,10 @@ enum {
     SYRINTHOA_NO_ROOM = 5,     /* no FREE clump is large enough */
     SYRINTHOA_NO_CLUMP = 6,    /* no clump has its body at that offset */
     SYRINTHOA_WRONG_STATE = 7, /* the clump's state does not allow it */
-    SYRINTHOA_LIST_FULL = 8,   /* three assignments are listed */
+    SYRINTHOA_LIST_FULL = 8,   /* the list's third entry is used; it may be so with fewer than three assignments listed */
     SYRINTHOA_LIST_EMPTY = 9,
     SYRINTHOA_BAD_TARGET = 10, /* a target is not a word of the static area or of a body that isn't FREE */
-    SYRINTHOA_CUT = 11         /* the fuse did not last: the first so many words of the list are stored, and no other */
+    SYRINTHOA_CUT = 11         /* the fuse did not last: the first so many words are stored, and no other. Ask for recovery next */
 };
 
 /* Faults, as answer 2 names them. */
@@ -111,33 +111,39 @@ struct syrinthoa_answer syrinthoa_create(uint8_t *image, size_t length, uint64_t
  * After a power loss and recovery the pool reads as if it had not been asked. */
 struct syrinthoa_answer syrinthoa_reserve(uint8_t *image, size_t length, uint64_t size, uint64_t fuse);
 
-/* Lists an assignment: when the RESERVED clump is activated, the word at `target` becomes `value`. Three at most.
+/* Lists an assignment: when the RESERVED clump is activated, the word at `target` becomes `value`. A clump lists three assignments at most,
+ * those of syrinthoa_onfree among them. A new one goes behind the last: what was carried out leaves a gap that is not filled again.
  * Answers DONE, with the offset as place; NOT_A_POOL, NOT_SOUND, UNSETTLED, NO_CLUMP, WRONG_STATE, LIST_FULL, BAD_TARGET; CUT.
  * After a power loss and recovery the pool reads as if it had not been asked. */
 struct syrinthoa_answer syrinthoa_onactive(
     uint8_t *image, size_t length, uint64_t offset, uint64_t target, uint64_t value, uint64_t fuse);
 
-/* Lists an assignment: when the ACTIVE clump is freed, the word at `target` becomes `value`. Three at most.
+/* Lists an assignment: when the RESERVED or ACTIVE clump is freed, the word at `target` becomes `value`. It stays listed when the clump is
+ * activated. Three at most, as above.
  * Answers as syrinthoa_onactive.
- * Cut short by a power loss, and recovered, it reads as if it had not been asked; once it is done, it stays. */
+ * Cut short by a power loss, and recovered, it reads as if it had not been asked; once it is done, it stays as long as the clump does: a
+ * RESERVED one is gone after a power loss, and recovery then makes none of its assignments. */
 struct syrinthoa_answer syrinthoa_onfree(
     uint8_t *image, size_t length, uint64_t offset, uint64_t target, uint64_t value, uint64_t fuse);
 
-/* Takes back the last assignment that the RESERVED or ACTIVE clump lists.
+/* Takes back the last assignment that the RESERVED or ACTIVE clump lists, syrinthoa_onactive's or syrinthoa_onfree's.
  * Answers DONE, with the offset as place; NOT_A_POOL, NOT_SOUND, UNSETTLED, NO_CLUMP, WRONG_STATE, LIST_EMPTY; CUT.
  * It is one store: a power loss leaves it done or not begun. */
 struct syrinthoa_answer syrinthoa_withdraw(uint8_t *image, size_t length, uint64_t offset, uint64_t fuse);
 
-/* Carries out the RESERVED clump's assignments, in order, empties its list, and makes it ACTIVE: it now outlasts a power loss.
+/* Carries out the assignments that syrinthoa_onactive listed on the RESERVED clump, in order, takes them off its list, and makes it ACTIVE:
+ * it now outlasts a power loss. Those of syrinthoa_onfree stay listed, and are not judged here.
  * Answers DONE, with the offset as place; NOT_A_POOL, NOT_SOUND, UNSETTLED, NO_CLUMP, WRONG_STATE, BAD_TARGET; CUT.
  * A power loss before the first word leaves it RESERVED, to be recovered as FREE with no assignment made; after the first word, recovery
- * finishes it: every assignment is made, and the clump is ACTIVE. */
+ * finishes it: every one of these assignments is made, and the clump is ACTIVE. */
 struct syrinthoa_answer syrinthoa_activate(uint8_t *image, size_t length, uint64_t offset, uint64_t fuse);
 
-/* Frees the clump, and joins it to the FREE clumps beside it. Of an ACTIVE clump the assignments are carried out first, in order; the list
- * of a RESERVED one is dropped.
+/* Frees the RESERVED or ACTIVE clump, and joins it to the FREE clumps beside it. The assignments that syrinthoa_onfree listed are carried
+ * out first, in order; of a RESERVED clump those of syrinthoa_onactive are taken off its list before.
  * Answers DONE, with the offset as place; NOT_A_POOL, NOT_SOUND, UNSETTLED, NO_CLUMP, WRONG_STATE, BAD_TARGET; CUT.
- * A power loss before the first word leaves the clump as it was; after it, recovery finishes the request. */
+ * Until the clump is FREEING, a power loss leaves it RESERVED or ACTIVE, and once recovered it reads as if it had not been asked; of a
+ * RESERVED one some of syrinthoa_onactive's assignments may be off the list by then, so that recovery is to be asked for before anything
+ * else. From FREEING on recovery finishes the request: every one of syrinthoa_onfree's assignments is made. */
 struct syrinthoa_answer syrinthoa_free(uint8_t *image, size_t length, uint64_t offset, uint64_t fuse);
 
 /* Judges the image, and adds up the bytes in each state. It stores nothing.
@@ -145,8 +151,8 @@ struct syrinthoa_answer syrinthoa_free(uint8_t *image, size_t length, uint64_t o
 struct syrinthoa_checked syrinthoa_check(const uint8_t *image, size_t length);
 
 /* Finishes or undoes what a power loss left: an ACTIVATING clump becomes ACTIVE and a FREEING one FREE, their assignments made; RESERVED
- * clumps become FREE; touching FREE clumps are joined. To be asked first after every start. An offset held from before may now name another
- * clump, and must be dropped.
+ * clumps become FREE, and none of their assignments is made; touching FREE clumps are joined. To be asked first after every start, and after
+ * every answer of CUT. An offset held from before may now name another clump, and must be dropped.
  * Answers DONE, place 0; NOT_A_POOL, NOT_SOUND; CUT. Asked again, it stores nothing.
  * After a power loss in it, ask again: it ends in the same reading, however often it is cut. */
 struct syrinthoa_answer syrinthoa_recover(uint8_t *image, size_t length, uint64_t fuse);

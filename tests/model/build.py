@@ -1,6 +1,7 @@
 """What the generator builds images with: clumps, pools, dust and fixed dice."""
 
 from collections import namedtuple
+from itertools import product
 
 import pool
 from pool import FREE, RESERVED, ACTIVE, LARGEST
@@ -52,6 +53,28 @@ def clump(nbytes, state, *entries):
     for target, value in entries:
         words += [target, value]
     return words + [0] * (8 - len(words))
+
+
+# What an entry of the list can be (W4 of document 02), and each mixture of three.
+EMPTY, UNMARKED, MARKED = range(3)
+MIXTURES = tuple(product((EMPTY, UNMARKED, MARKED), repeat=3))
+
+
+# An entry for `clump`.  An empty one keeps a value, which means nothing.
+def entry(kind, target, value):
+    return {EMPTY: 0, UNMARKED: target, MARKED: pool.marked(target)}[kind], value
+
+
+# The entries of a mixture, each with a target and a value of its own.
+def mixed_entries(mixture, targets=(4096, 4104, 4112)):
+    return [entry(kind, target, 71 + slot)
+            for slot, (kind, target) in enumerate(zip(mixture, targets))]
+
+
+# The clump with the mixture stands at 16512, its body at 16576.
+def mixture_pool(state, mixture, before=ACTIVE, following=ACTIVE):
+    return pool_of(clump(128, before), clump(128, state, *mixed_entries(mixture)),
+                   clump(128, following))
 
 
 def with_words(image, words):

@@ -7,10 +7,11 @@ tries.  A case that an earlier family has given already is left out.
 import pool
 from pool import FREE, RESERVED, ACTIVATING, ACTIVE, FREEING, LARGEST
 from build import (
-    Dice, EDGE_NUMBERS, MIXED, MIXED_ACTIVE, MIXED_BARE_ACTIVE,
-    MIXED_BARE_RESERVED, MIXED_FREE, MIXED_REQUESTS, MIXED_RESERVED, after, case,
-    clump, dusty, filled, flip_bit, fresh, pool_header, pool_of, stores_of,
-    unfinished, with_words)
+    Dice, EDGE_NUMBERS, EMPTY, MARKED, MIXED, MIXED_ACTIVE, MIXED_BARE_ACTIVE,
+    MIXED_BARE_RESERVED, MIXED_FREE, MIXED_REQUESTS, MIXED_RESERVED, MIXTURES,
+    UNMARKED, after, case, clump, dusty, entry, filled, flip_bit, fresh,
+    mixed_entries, mixture_pool, pool_header, pool_of, stores_of, unfinished,
+    with_words)
 
 # ---------------------------------------------------------------------------
 # Not a pool
@@ -134,8 +135,8 @@ def bad_states():
             yield case(with_words(MIXED, {at + 8: state}), "check")
 
 
-# Every pattern of used and empty entries in every state.  Values of empty
-# entries stand there too, since they mean nothing.
+# Every pattern of used and empty entries in every state: gaps are sound in each.
+# Values of empty entries stand there too, since they mean nothing.
 def entry_patterns():
     for state in range(5):
         for pattern in range(8):
@@ -172,7 +173,8 @@ def list_with(target, slot):
     return [(4096, 1), (8184, 2)][:slot] + [(target, 3)]
 
 
-# Fault 3 by target, in RESERVED and ACTIVE clumps and in each entry.
+# Fault 3 by target, in RESERVED and ACTIVE clumps and in each entry.  An odd number
+# is a mark and the target below it.
 def listed_targets():
     for index, target in enumerate(TARGETS):
         entries = list_with(target, index % 3)
@@ -181,7 +183,8 @@ def listed_targets():
         yield case(target_pool(ACTIVE, entries, RESERVED, []), "check")
 
 
-# Fault 5 by target, in ACTIVATING and FREEING clumps, with empty entries about.
+# Fault 5 by target, in ACTIVATING and FREEING clumps, with empty entries about; of an
+# odd one, which is marked, fault 3 in the ACTIVATING clump.
 def pending_targets():
     for index, target in enumerate(TARGETS):
         entries = [(0, 9)] * (index % 3) + [(target, 3)]
@@ -217,7 +220,7 @@ def second_unfinished():
 
 # Words that make a fault in a clump at an offset.
 def fault_words(fault, at):
-    return {1: {at: 64}, 2: {at + 8: 5}, 3: {at + 8: ACTIVE, at + 16: 0, at + 32: 4096}}[fault]
+    return {1: {at: 64}, 2: {at + 8: 5}, 3: {at + 8: ACTIVE, at + 16: 0, at + 32: 8192}}[fault]
 
 
 # The order of judging within one clump: each set of faults 1 to 3 in the same
@@ -256,7 +259,7 @@ def fault_order_4_and_5():
 # One image for each fault, in their order.
 FAULTY = (
     with_words(MIXED, {17024: 136}), with_words(MIXED, {17032: 7}),
-    with_words(MIXED, {17280 + 32: 4096}),
+    with_words(MIXED, {17280 + 32: 8192}),
     with_words(MIXED, {16392: FREEING, 17032: ACTIVATING}),
     with_words(MIXED, {16840: ACTIVATING, 16848: 16704}))
 
@@ -390,7 +393,7 @@ def targets_added():
 
 
 # The list with none to three entries, with a good and a bad target: 8 comes
-# before 10, 7 before both, 6 before all.
+# before 10, 7 before both, 6 before all.  Onfree takes RESERVED and ACTIVE.
 def lists_filled():
     for count in range(4):
         entries = [(4096 + 8 * slot, slot) for slot in range(count)]
@@ -435,7 +438,7 @@ def targets_carried_out():
 
 
 # A target that isn't valid in each entry, or in several; free of a RESERVED
-# clump drops its list and asks nothing of it.
+# clump with no marked entry drops its list and asks nothing of it.
 def targets_gone():
     for bad in range(8):
         entries = [(16640 + 8 * slot if bad >> slot & 1 else 4096 + 8 * slot, slot)
@@ -885,8 +888,9 @@ def damage():
 
 
 # The states that each request on an offset asks for.
-STATES_WANTED = {"onactive": (RESERVED,), "activate": (RESERVED,), "onfree": (ACTIVE,),
-                 "free": (ACTIVE, RESERVED), "withdraw": (RESERVED, ACTIVE)}
+STATES_WANTED = {"onactive": (RESERVED,), "activate": (RESERVED,),
+                 "onfree": (RESERVED, ACTIVE), "free": (ACTIVE, RESERVED),
+                 "withdraw": (RESERVED, ACTIVE)}
 
 # What a history is made of: more is reserved than freed, so the pool fills.
 HISTORY_NAMES = ("reserve",) * 5 + ("onactive",) * 4 + ("onfree",) * 3 + (
@@ -998,6 +1002,286 @@ def last_word_assigned():
         yield case(image, "activate", 16576, fuse=fuse)
 
 
+# ---------------------------------------------------------------------------
+# Onfree before activation (W4 of document 02)
+# ---------------------------------------------------------------------------
+
+# The neighbours, before and following, of the clump with the mixture.
+NEIGHBOURS = ((ACTIVE, ACTIVE), (FREE, ACTIVE), (ACTIVE, FREE), (FREE, FREE))
+
+# Mixtures in which every kind of entry stands beside every other.
+TELLING_MIXTURES = ((UNMARKED, MARKED, UNMARKED), (MARKED, UNMARKED, MARKED))
+
+
+# Each fuse from 0 to the list's length, and the largest.
+def cut_everywhere(image, name, *numbers):
+    for fuse in list(range(stores_of(image, name, numbers) + 1)) + [LARGEST]:
+        yield case(image, name, *numbers, fuse=fuse)
+
+
+# A RESERVED clump with each mixture of entries, its neighbours FREE or not by
+# turns; with two of the mixtures between each pair of neighbours.
+def reserved_mixtures():
+    for index, mixture in enumerate(MIXTURES):
+        yield mixture_pool(RESERVED, mixture, *NEIGHBOURS[index % 4])
+    for mixture in TELLING_MIXTURES:
+        for before, following in NEIGHBOURS:
+            yield mixture_pool(RESERVED, mixture, before, following)
+
+
+# Free of a RESERVED clump with each mixture, at every cut: with a marked entry the
+# unmarked ones are emptied, then it goes by FREEING; without one it is dropped.
+def mixtures_freed():
+    for image in reserved_mixtures():
+        yield from cut_everywhere(image, "free", 16576)
+
+
+# Recovery of each of those cuts, the one before the first store too: up to the
+# FREEING store nothing is carried out, from there on every marked entry is.
+def mixtures_freed_and_recovered():
+    for image in reserved_mixtures():
+        for fuse in range(stores_of(image, "free", (16576,))):
+            yield case(after(image, "free", 16576, fuse=fuse), "recover")
+
+
+# A free cut before the FREEING store leaves a settled pool with a gap in the list:
+# what each request makes of it.
+def cut_frees_asked():
+    image = mixture_pool(RESERVED, (UNMARKED, MARKED, UNMARKED), FREE, FREE)
+    for fuse in (1, 2):
+        cut = after(image, "free", 16576, fuse=fuse)
+        for name, numbers in (("reserve", (64,)), ("onactive", (16576, 8184, 5)),
+                              ("onfree", (16576, 8184, 5)), ("withdraw", (16576,)),
+                              ("activate", (16576,)), ("free", (16576,)), ("check", ())):
+            yield case(cut, name, *numbers)
+
+
+# Recovery of ACTIVATING and FREEING clumps with each mixture: the first carries out
+# and empties the unmarked entries alone, the second carries out all.  At every cut
+# for some of them.
+def mixtures_recovered():
+    for state in (ACTIVATING, FREEING):
+        for index, mixture in enumerate(MIXTURES):
+            yield case(mixture_pool(state, mixture, *NEIGHBOURS[index % 4]), "recover")
+        for mixture in TELLING_MIXTURES + ((MARKED,) * 3, (EMPTY, MARKED, UNMARKED)):
+            image = mixture_pool(state, mixture, FREE, RESERVED)
+            yield from cut_everywhere(image, "recover")
+
+
+# Activate with each mixture, at every cut, and the recovery of each cut.
+def mixtures_activated():
+    for mixture in MIXTURES:
+        image = mixture_pool(RESERVED, mixture)
+        length = stores_of(image, "activate", (16576,))
+        for fuse in range(length + 1):
+            yield case(image, "activate", 16576, fuse=fuse)
+        for fuse in range(1, length):
+            yield case(after(image, "activate", 16576, fuse=fuse), "recover")
+
+
+# Activate leaves the marked entries where they stand, also with gaps before them:
+# then free of the ACTIVE clump, which carries them out; cut everywhere if there are
+# two or more.
+def mixtures_activated_and_freed():
+    for index, mixture in enumerate(MIXTURES):
+        image = mixture_pool(RESERVED, mixture, *NEIGHBOURS[index % 4])
+        active = after(image, "activate", 16576)
+        yield case(active, "free", 16576)
+        if mixture.count(MARKED) >= 2:
+            yield from cut_everywhere(active, "free", 16576)
+
+
+# Free of an ACTIVE clump with each mixture: an unmarked entry is an old onfree, and
+# is carried out in its place among the marked ones.  At every cut for some of them.
+def mixtures_of_active_freed():
+    for index, mixture in enumerate(MIXTURES):
+        yield case(mixture_pool(ACTIVE, mixture, *NEIGHBOURS[index % 4]), "free", 16576)
+    for mixture in TELLING_MIXTURES + ((EMPTY, MARKED, UNMARKED),):
+        yield from cut_everywhere(mixture_pool(ACTIVE, mixture, FREE, FREE), "free", 16576)
+
+
+# Each mixture with a mark is sound in each state that has a list, gaps and all.  (The
+# ones without are entry_patterns'.)
+def mixtures_checked():
+    for state in (RESERVED, ACTIVATING, ACTIVE, FREEING):
+        for mixture in MIXTURES:
+            if MARKED in mixture:
+                yield case(mixture_pool(state, mixture), "check")
+
+
+# A new entry goes after the last used one of each mixture, never into a gap: answer
+# 8 where the third is used, and there before 10.  Withdraw takes the last used one,
+# marked or not; 9 where there is none.
+def mixtures_listed():
+    for mixture in MIXTURES:
+        reserved, active = mixture_pool(RESERVED, mixture), mixture_pool(ACTIVE, mixture)
+        yield case(reserved, "onactive", 16576, 8184, 5)
+        for image in (reserved, active):
+            yield case(image, "onfree", 16576, 8184, 5)
+            yield case(image, "withdraw", 16576)
+    for mixture in ((EMPTY, EMPTY, MARKED), (MARKED, EMPTY, UNMARKED), (EMPTY, MARKED, EMPTY)):
+        for name in ("onactive", "onfree"):
+            yield case(mixture_pool(RESERVED, mixture), name, 16576, 8192, 5)
+        yield case(mixture_pool(ACTIVE, mixture), "onactive", 16576, 8184, 5)
+        yield case(mixture_pool(ACTIVE, mixture), "onfree", 16576, 8185, 5)
+
+
+# Cuts of onactive, onfree and withdraw in lists with gaps and marks, and the
+# recovery of what they leave.
+def mixtures_listed_and_cut():
+    for mixture in ((EMPTY, MARKED, EMPTY), (MARKED, UNMARKED, EMPTY), (EMPTY,) * 3):
+        for state, name in ((RESERVED, "onactive"), (RESERVED, "onfree"), (ACTIVE, "onfree")):
+            image = mixture_pool(state, mixture)
+            yield from cut_everywhere(image, name, 16576, 8184, 5)
+            yield case(after(image, name, 16576, 8184, 5, fuse=1), "recover")
+        if mixture != (EMPTY,) * 3:
+            yield from cut_everywhere(mixture_pool(RESERVED, mixture), "withdraw", 16576)
+
+
+# Onfree and onactive on a clump in each state: onfree takes RESERVED and ACTIVE,
+# onactive RESERVED alone.  The target asked for has no mark: with bit 0 set it isn't
+# divisible by 8.
+def listed_in_each_state():
+    for state in range(5):
+        image = pool_of(clump(128, state), clump(128, ACTIVE))
+        for target in (0, 1, 4096, 4097, 4098, 16449):
+            yield case(image, "onfree", 16448, target, 5)
+        for target in (4096, 4097):
+            yield case(image, "onactive", 16448, target, 5)
+
+
+# Onfree on a RESERVED clump with the targets on both sides of each border that are
+# divisible by 8, and with the odd ones beside some.
+def marked_targets_added():
+    image = target_pool(ACTIVE, [], RESERVED, [(4096, 1)])
+    for index, target in enumerate(TARGETS):
+        if target % 8 == 0 or target % 8 == 1 and target < 2**32:
+            yield case(image, "onfree", 16768, target, EDGE_NUMBERS[(index + 11) % 17])
+
+
+# Stored words with bit 0 set, or with bit 1: targets that are 0, not divisible by 8,
+# beside the static area and at its ends; in headers, in a FREE body (16640 to 16703),
+# in live bodies and at their ends; at the end of the image and past it; ones that
+# wrap.  1 is used, and its target is 0.
+STORED = (
+    1, 2, 3, 9, 4089, 4097, 4098, 4099, 4101, 4103, 8185, 8187, 8193, 16377, 16385,
+    16441, 16449, 16569, 16577, 16641, 16697, 16705, 16769, 16889, 16961, 17017, 17019,
+    17025, 2**32 + 4097, 2**63 + 4097, 2**64 - 7, 2**64 - 1)
+
+
+# Each of them in each state: fault 3 by range where RESERVED, ACTIVE or (if marked)
+# ACTIVATING, fault 5 by validity where FREEING, none where FREE.
+def stored_targets():
+    for index, stored in enumerate(STORED):
+        entries = [(0, 9)] * (index % 3) + [(stored, 3)]
+        for state in range(5):
+            yield case(target_pool(ACTIVE, [], state, entries), "check")
+
+
+# Two entries of an ACTIVATING or FREEING clump, marked or not, each with a target
+# that is valid, in range only (a FREE body), or (ACTIVATING) out of range.  In
+# ACTIVATING the marked are judged by range (3) and the unmarked by validity (5), 3
+# first; in FREEING all by validity.
+def pending_pairs():
+    for state, targets in ((ACTIVATING, (4096, 16640, 8192)), (FREEING, (4096, 16640))):
+        choices = [(kind, target) for kind in (UNMARKED, MARKED) for target in targets]
+        for one, first in choices:
+            for other, second in choices:
+                entries = [entry(one, first, 1), (0, 9), entry(other, second, 2)]
+                yield case(target_pool(ACTIVE, [], state, entries), "recover")
+
+
+# Fault 3 of a marked entry in an ACTIVATING clump comes before fault 4, and before a
+# fault 1 or 2 in a higher clump but not in a lower one.
+def waiting_fault_order():
+    bad = clump(128, ACTIVATING, (8193, 1), (8192, 2))
+    yield case(pool_of(clump(128, ACTIVE), bad, clump(128, FREEING, (8, 1))), "check")
+    yield case(pool_of(clump(128, FREEING), bad, clump(128, ACTIVE)), "check")
+    image = pool_of(clump(128, ACTIVE), bad, clump(128, ACTIVE))
+    for at in (16384, 16512, 16640):
+        for fault in (1, 2):
+            yield case(with_words(image, fault_words(fault, at)), "check")
+
+
+# Two entries, marked or not, each valid or in a FREE body.  Answer 10: activate
+# judges the unmarked, free of a RESERVED clump the marked (and nothing if there are
+# none), free of an ACTIVE clump all.
+def targets_judged():
+    choices = [(kind, target) for kind in (UNMARKED, MARKED) for target in (4096, 16640)]
+    for one, first in choices:
+        for other, second in choices:
+            entries = [entry(one, first, 1), entry(other, second, 2)]
+            reserved = target_pool(ACTIVE, [], RESERVED, entries)
+            yield case(reserved, "activate", 16768)
+            yield case(reserved, "free", 16768)
+            yield case(target_pool(ACTIVE, [], ACTIVE, entries), "free", 16768)
+
+
+# One marked entry with a target on each side of the borders within the range that a
+# sound list allows: free of the RESERVED clump judges it, activate doesn't.
+def marked_targets_carried_out():
+    for index, target in enumerate(IN_RANGE):
+        entries = [(4104, 1), (0, 2)][:index % 3] + [entry(MARKED, target, 3)]
+        image = target_pool(ACTIVE, [], RESERVED, entries)
+        yield case(image, "free", 16768)
+        if index % 3 == 0:
+            yield case(image, "activate", 16768)
+
+
+# The same target in all three entries, marked and not: the last one that is carried
+# out wins, and activate then leaves the marked ones to win later.
+def equal_targets():
+    for mixture in MIXTURES:
+        if EMPTY in mixture:
+            continue
+        entries = mixed_entries(mixture, (4096, 4096, 4096))
+        for state, name in ((RESERVED, "activate"), (RESERVED, "free"), (ACTIVE, "free")):
+            image = pool_of(clump(128, state, *entries), clump(128, ACTIVE))
+            yield case(image, name, 16448)
+            if mixture in TELLING_MIXTURES and state == RESERVED:
+                yield from cut_everywhere(image, name, 16448)
+        for state in (ACTIVATING, FREEING):
+            yield case(pool_of(clump(128, state, *entries), clump(128, ACTIVE)), "recover")
+
+
+# Targets in the clump's own body, in its neighbours' and at the end of the image:
+# free of the RESERVED clump at every cut, and recovery; a RESERVED neighbour's body is
+# live until recovery drops it.
+def marked_targets_in_bodies():
+    entries = mixed_entries((MARKED, UNMARKED, MARKED), (16576, 16448, 16760))
+    image = pool_of(clump(128, RESERVED), clump(128, RESERVED, *entries), clump(128, ACTIVE))
+    yield from cut_everywhere(image, "free", 16576)
+    for fuse in range(stores_of(image, "free", (16576,))):
+        yield case(after(image, "free", 16576, fuse=fuse), "recover")
+    yield from cut_everywhere(image, "activate", 16576)
+
+
+# A sound pool by chance with marks and gaps in its lists.
+def marked_pool(dice, settled):
+    image = sound_pool(dice, settled)
+    for one in pool.walk(image):
+        for listed in one.entries if one.state != FREE else ():
+            chance = dice.below(5)
+            if chance == 0:
+                pool.put_word(image, listed.offset, 0)
+            elif chance <= 2 and pool.is_used(listed):
+                pool.put_word(image, listed.offset, pool.marked(listed.stored))
+    return image
+
+
+# Those pools, each with a request on one of its lists, or a recovery; half of them
+# with a small fuse.
+def marked_pools():
+    dice = Dice(2006)
+    for index in range(80):
+        image = marked_pool(dice, settled=index % 4 != 0)
+        name = dice.pick(REQUEST_NAMES[2:7]) if index % 4 else "recover"
+        fitting = [pool.body_of(one) for one in pool.walk(image)
+                   if one.state in STATES_WANTED.get(name, (FREE,))]
+        numbers = some_numbers(dice, image, name, fitting or (16448,))
+        yield case(image, name, *numbers, fuse=some_fuse(dice))
+
+
 FAMILIES = (
     lengths, no_pool_for_every_request, header_bits, total_sizes, padding,
     no_pool_before_faults, bad_sizes, last_64_bytes, bad_states, entry_patterns,
@@ -1009,7 +1293,13 @@ FAMILIES = (
     create_over_a_pool, after_create_cuts, recoveries, recoveries_cut_again,
     longer_and_longer_recoveries, cut_images_asked, dust, garbage, garbage_clumps,
     nearly_right_pools, sound_pools, damage, histories, create_over_the_same_words,
-    kept_words, last_word_assigned)
+    kept_words, last_word_assigned, mixtures_freed, mixtures_freed_and_recovered,
+    cut_frees_asked, mixtures_recovered, mixtures_activated,
+    mixtures_activated_and_freed, mixtures_of_active_freed, mixtures_checked,
+    mixtures_listed, mixtures_listed_and_cut, listed_in_each_state,
+    marked_targets_added, stored_targets, pending_pairs, waiting_fault_order,
+    targets_judged, marked_targets_carried_out, equal_targets,
+    marked_targets_in_bodies, marked_pools)
 
 
 def all_cases():

@@ -1,12 +1,13 @@
 """A model of the pool, written from document 01 and in its order, and from
-request W1 of document 02.
+requests W1 and W4 of document 02.
 
 An image is a bytearray.  A request takes the image, its numbers and a fuse,
 changes the image as far as the fuse lasts, and returns
 (answer, place, fault, stores, flush_from, flush_to).  The comment above a
-function quotes the rule that the function follows: document 01's, or W1's where
-it says so.  Nothing here is quick or clever: it is meant to be held against the
-papers, line by line.
+function quotes the rule that the function follows: document 01's, or W1's or W4's
+where it says so.  What W4 changes, 01 no longer says: only the changed rule stands
+here.  Nothing here is quick or clever: it is meant to be held against the papers,
+line by line.
 """
 
 from collections import namedtuple
@@ -17,7 +18,9 @@ LARGEST = 2**64 - 1
 # "Answer, place, fault number, count of stores."  W1: "Every answer should also
 # carry the lowest offset stored to and the offset just past the highest."
 Answer = namedtuple("Answer", "answer place fault stores flush_from flush_to")
-Entry = namedtuple("Entry", "offset target value")
+# An entry of the on-list: its place (the offset of its target word), the word that
+# is stored there, mark and all, and the value.
+Entry = namedtuple("Entry", "offset stored value")
 Clump = namedtuple("Clump", "offset nbytes state entries")
 
 
@@ -97,14 +100,47 @@ def clump_at(image, offset):
     return Clump(offset, word(image, offset), word(image, offset + STATE_WORD), entries)
 
 
-# "target 0 means empty"
+# W4: "only a stored 0 is empty"
 def is_used(entry):
-    return entry.target != 0
+    return entry.stored != 0
+
+
+# W4: "Bit 0 of a stored target marks an onfree entry"
+def is_marked(entry):
+    return entry.stored % 2 == 1
+
+
+# W4: "the target is the number without it"
+def target_of(entry):
+    return entry.stored - entry.stored % 2
+
+
+# W4: "Onfree always writes it": the word that is stored for a target and the mark.
+def marked(target):
+    return target + 1
 
 
 # "a used entry": one that isn't empty.
 def used_entries(clump):
     return [entry for entry in clump.entries if is_used(entry)]
+
+
+# W4: "the unmarked entries", of the used ones: an empty entry is neither.
+def unmarked_entries(clump):
+    return [entry for entry in used_entries(clump) if not is_marked(entry)]
+
+
+# W4: "marked ones".  A stored 1 is one of them, and its target is 0.
+def marked_entries(clump):
+    return [entry for entry in used_entries(clump) if is_marked(entry)]
+
+
+# W4: "An unmarked entry of an ACTIVE or FREEING clump is an old onfree and counts
+# as one."  In a RESERVED clump only the marked entries are onfree's.
+def onfree_entries(clump):
+    if clump.state in (ACTIVE, FREEING):
+        return used_entries(clump)
+    return marked_entries(clump)
 
 
 # "The body is what follows the header."
@@ -147,12 +183,6 @@ def has_bad_state(clump):
     return clump.state > 4
 
 
-# "a used entry after an empty one"
-def has_gap(clump):
-    used = [is_used(entry) for entry in clump.entries]
-    return any(not before and after for before, after in zip(used, used[1:]))
-
-
 # "a target that isn't divisible by 8 or lies neither in 4096..8184 nor in
 # 16384..length-8"
 def is_out_of_range(image, target):
@@ -161,12 +191,21 @@ def is_out_of_range(image, target):
     return target % 8 != 0 or not (in_static or in_clumps)
 
 
-# "3. list: in a RESERVED or ACTIVE clump [..]"
+# "3. list: in a RESERVED or ACTIVE clump [..] a target [..]".  W4, of an ACTIVATING
+# clump: "marked ones wait, judged there by the rest of fault 3".
+def entries_of_fault_3(clump):
+    if clump.state in (RESERVED, ACTIVE):
+        return used_entries(clump)
+    if clump.state == ACTIVATING:
+        return marked_entries(clump)
+    return []
+
+
+# "3. list: [..] a target that isn't divisible by 8 or lies neither in [..] nor in
+# [..]".  That is the rest of it: W4: "Gaps are now sound in every state."
 def has_bad_list(image, clump):
-    if clump.state not in (RESERVED, ACTIVE):
-        return False
-    return has_gap(clump) or any(
-        is_out_of_range(image, entry.target) for entry in used_entries(clump))
+    return any(is_out_of_range(image, target_of(entry))
+               for entry in entries_of_fault_3(clump))
 
 
 # "Faults 1 to 3 are sought together, lowest clump first and in that order
@@ -194,9 +233,18 @@ def is_valid(clumps, target):
     return target % 8 == 0 and (in_static or lies_in_live_body(clumps, target))
 
 
-# "a used target that isn't valid", the other way round
-def all_targets_valid(clumps, clump):
-    return all(is_valid(clumps, entry.target) for entry in used_entries(clump))
+# "a used target that isn't valid", the other way round, of some entries
+def all_targets_valid(clumps, entries):
+    return all(is_valid(clumps, target_of(entry)) for entry in entries)
+
+
+# "5. in the one ACTIVATING or FREEING clump, a used target [..]".  W4: "recovery of
+# an ACTIVATING clump [judges] the unmarked entries"; of the marked ones: "fault 5
+# looks at them only in a FREEING clump".
+def entries_of_fault_5(clump):
+    if clump.state == ACTIVATING:
+        return unmarked_entries(clump)
+    return used_entries(clump)
 
 
 # "4. a second clump that is ACTIVATING or FREEING; 5. in the one ACTIVATING or
@@ -206,7 +254,7 @@ def fault_across(clumps):
     unfinished = [clump for clump in clumps if is_unfinished(clump)]
     if len(unfinished) > 1:
         return 4, unfinished[1].offset
-    if unfinished and not all_targets_valid(clumps, unfinished[0]):
+    if unfinished and not all_targets_valid(clumps, entries_of_fault_5(unfinished[0])):
         return 5, unfinished[0].offset
     return 0, 0
 
@@ -287,12 +335,16 @@ def demand_state(clump, *states):
         raise Refused(7)
 
 
-# "8 | list full"
-def first_empty_entry(clump):
-    for entry in clump.entries:
-        if not is_used(entry):
-            return entry
-    raise Refused(8)
+# "8 | list full".  W4: "A new entry goes after the last used one, answer 8 if that
+# is the third."  Where none is used, it goes first.
+def entry_after_the_last_used(clump):
+    place = 0
+    for at, entry in enumerate(clump.entries):
+        if is_used(entry):
+            place = at + 1
+    if place == 3:
+        raise Refused(8)
+    return clump.entries[place]
 
 
 # "9 | list empty (withdraw)"
@@ -308,9 +360,9 @@ def demand_valid_target(clumps, target):
         raise Refused(10)
 
 
-# "every used target must be valid now, else 10"
-def demand_valid_list(clumps, clump):
-    if not all_targets_valid(clumps, clump):
+# "every used target must be valid now, else 10", of the entries that are judged
+def demand_valid_targets(clumps, entries):
+    if not all_targets_valid(clumps, entries):
         raise Refused(10)
 
 
@@ -363,14 +415,15 @@ def state_store(clump, state):
     return clump.offset + STATE_WORD, state
 
 
-# "each value to its target, in list order"
-def assignments(clump):
-    return [(entry.target, entry.value) for entry in used_entries(clump)]
+# "each value to its target, in list order", of the entries that are carried out
+def assignments(entries):
+    return [(target_of(entry), entry.value) for entry in entries]
 
 
-# "0 to each used target word of the list, first to last"
-def list_emptying(clump):
-    return [(entry.offset, 0) for entry in used_entries(clump)]
+# "0 to each used target word of the list, first to last".  W4: "empty the unmarked
+# entries"; "empties the unmarked ones first to last".
+def emptying_of_unmarked(clump):
+    return [(entry.offset, 0) for entry in unmarked_entries(clump)]
 
 
 # "the words 12296 to 16376 upward as the header wants them"
@@ -450,31 +503,34 @@ def reserve(image, size, fuse=LARGEST):
     return carry_out(image, stores, body_of(clump), fuse)
 
 
-# "into the first empty entry, value, then target.  Any value.  The target must
-# be valid now."
-def add_entry(image, state, offset, target, value, fuse):
+# "into the [..] entry, value, then target.  Any value.  The target must be valid
+# now."  W4 says which entry: "after the last used one".  The target asked for has no
+# mark in it: bit 0 is one of "a stored target" alone, so that an odd one isn't
+# divisible by 8.
+def add_entry(image, states, offset, target, stored, value, fuse):
     clumps = settled_clumps(image)
     clump = clump_with_body(clumps, offset)
-    demand_state(clump, state)
-    entry = first_empty_entry(clump)
+    demand_state(clump, *states)
+    entry = entry_after_the_last_used(clump)
     demand_valid_target(clumps, target)
-    stores = [(entry.offset + 8, value), (entry.offset, target)]
+    stores = [(entry.offset + 8, value), (entry.offset, stored)]
     return carry_out(image, stores, offset, fuse)
 
 
 # "Onactive (RESERVED)"
 @request
 def onactive(image, offset, target, value, fuse=LARGEST):
-    return add_entry(image, RESERVED, offset, target, value, fuse)
+    return add_entry(image, (RESERVED,), offset, target, target, value, fuse)
 
 
-# "onfree (ACTIVE)"
+# "onfree (ACTIVE)".  W4: "Onfree always writes it and now takes RESERVED too."
 @request
 def onfree(image, offset, target, value, fuse=LARGEST):
-    return add_entry(image, ACTIVE, offset, target, value, fuse)
+    return add_entry(image, (RESERVED, ACTIVE), offset, target, marked(target), value, fuse)
 
 
-# "Withdraw (RESERVED or ACTIVE): 0 to the last used target."
+# "Withdraw (RESERVED or ACTIVE): 0 to the last used target."  Marked or not: W4
+# says nothing else of it.
 @request
 def withdraw(image, offset, fuse=LARGEST):
     clump = clump_with_body(settled_clumps(image), offset)
@@ -482,27 +538,32 @@ def withdraw(image, offset, fuse=LARGEST):
     return carry_out(image, [(last_used_entry(clump).offset, 0)], offset, fuse)
 
 
-# Recovery's part of it: "(assign, empty the list, ACTIVE)"
+# Recovery's part of it: "(assign, empty the list, ACTIVE)".  W4: "Activate, and
+# recovery of an ACTIVATING clump, judge, carry out and empty the unmarked entries;
+# marked ones wait".
 def end_of_activation(clump):
-    return assignments(clump) + list_emptying(clump) + [state_store(clump, ACTIVE)]
+    return (assignments(unmarked_entries(clump)) + emptying_of_unmarked(clump)
+            + [state_store(clump, ACTIVE)])
 
 
 # "Activate (RESERVED): every used target must be valid now, else 10.  State
 # ACTIVATING; each value to its target, in list order; 0 to each used target
-# word of the list, first to last; state ACTIVE."
+# word of the list, first to last; state ACTIVE."  W4: of "the unmarked entries".
 @request
 def activate(image, offset, fuse=LARGEST):
     clumps = settled_clumps(image)
     clump = clump_with_body(clumps, offset)
     demand_state(clump, RESERVED)
-    demand_valid_list(clumps, clump)
+    demand_valid_targets(clumps, unmarked_entries(clump))
     stores = [state_store(clump, ACTIVATING)] + end_of_activation(clump)
     return carry_out(image, stores, offset, fuse)
 
 
-# Recovery's part of it: "(assign, FREE)"
+# Recovery's part of it: "(assign, FREE)", of the onfree entries.  In a FREEING clump
+# these are all the used ones, and on the way there from RESERVED the marked ones,
+# since the others are emptied by then.
 def end_of_freeing(clump):
-    return assignments(clump) + [state_store(clump, FREE)]
+    return assignments(onfree_entries(clump)) + [state_store(clump, FREE)]
 
 
 # "if the next clump is FREE, nbytes = both; then, if the one before is FREE, its
@@ -519,19 +580,35 @@ def join_stores(clumps, clump):
     return stores
 
 
+# W4: "Free of a RESERVED clump with no marked entry stays as in 01"
+def is_dropped_by_free(clump):
+    return clump.state == RESERVED and not marked_entries(clump)
+
+
+# What free stores before the clump is FREEING.  W4, of a RESERVED clump: "empties
+# the unmarked ones first to last and goes by FREEING".  Those of an ACTIVE clump
+# count as onfree's, and stay.
+def stores_before_freeing(clump):
+    if clump.state == RESERVED:
+        return emptying_of_unmarked(clump)
+    return []
+
+
 # "Free: RESERVED: state FREE, list dropped.  ACTIVE: every used target must be
 # valid now, else 10; state FREEING; the assignments in order; state FREE.  Then
-# [the joins]."
+# [the joins]."  W4, of a RESERVED clump with marked entries: "it judges those,
+# empties the unmarked ones first to last and goes by FREEING".
 @request
 def free(image, offset, fuse=LARGEST):
     clumps = settled_clumps(image)
     clump = clump_with_body(clumps, offset)
     demand_state(clump, RESERVED, ACTIVE)
-    if clump.state == RESERVED:
+    if is_dropped_by_free(clump):
         stores = [state_store(clump, FREE)]
     else:
-        demand_valid_list(clumps, clump)
-        stores = [state_store(clump, FREEING)] + end_of_freeing(clump)
+        demand_valid_targets(clumps, onfree_entries(clump))
+        stores = (stores_before_freeing(clump) + [state_store(clump, FREEING)]
+                  + end_of_freeing(clump))
     return carry_out(image, stores + join_stores(clumps, clump), offset, fuse)
 
 
@@ -546,7 +623,8 @@ def finishing_stores(clumps):
     return []
 
 
-# "then each RESERVED to FREE, upward"
+# "then each RESERVED to FREE, upward".  W4: "Recovery of a RESERVED clump still
+# carries out nothing."
 def dropping_stores(clumps):
     return [state_store(clump, FREE) for clump in clumps if clump.state == RESERVED]
 
@@ -585,16 +663,49 @@ def recover(image, fuse=LARGEST):
     return carry_out(image, stores, 0, fuse)
 
 
+# "used entries", each with its place, since the place of the last one says where a
+# new entry goes (W4: "after the last used one"); its mark, its target, its value.
+def entry_reading(entry):
+    return entry.offset, is_marked(entry), target_of(entry), entry.value
+
+
 # "The pool's reading: sizes and states along the walk, used entries of RESERVED
 # and ACTIVE clumps, the static area, bodies that aren't FREE."
 def reading(image):
     clumps = sound_clumps(image)
     sizes_and_states = [(clump.nbytes, clump.state) for clump in clumps]
-    lists = [(clump.offset, used_entries(clump)) for clump in clumps
-             if clump.state in (RESERVED, ACTIVE)]
+    lists = [(clump.offset, [entry_reading(entry) for entry in used_entries(clump)])
+             for clump in clumps if clump.state in (RESERVED, ACTIVE)]
     bodies = [(clump.offset, bytes(image[body_of(clump):end_of(clump)]))
               for clump in clumps if clump.state != FREE]
     return sizes_and_states, lists, bytes(image[STATIC:STATIC_END]), bodies
+
+
+# The requests of which a cut, wherever it falls, "equals that of recovering the
+# image before the request".
+UNDONE_BY_A_CUT = ("reserve", "onactive", "onfree", "withdraw", "recover")
+
+
+# At which store, counted from 1, a cut turns from reading as not asked to reading as
+# finished; 0 if it never does.  For a request that the image accepts, not create.
+# "It equals that of recovering the finished image if one or more stores of activate
+# or free were made": the first.  W4, of a RESERVED clump with a marked entry: "Cut
+# before the FREEING store, it reads as not asked": that store.
+def turning_store(image, name, numbers):
+    if name in UNDONE_BY_A_CUT:
+        return 0
+    clump = clump_with_body(settled_clumps(image), numbers[0])
+    if name == "activate" or is_dropped_by_free(clump):
+        return 1
+    return len(stores_before_freeing(clump)) + 1
+
+
+# "After a cut and recovery, the reading equals that of recovering the image before
+# the request [..].  It equals that of recovering the finished image [..]": whether
+# it is the finished one after so many stores.
+def reads_as_finished(image, name, numbers, stores):
+    turn = turning_store(image, name, numbers)
+    return turn != 0 and stores >= turn
 
 
 # "create, reserve, onactive, onfree, withdraw, activate, free, check, recover":

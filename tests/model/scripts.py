@@ -121,21 +121,124 @@ SCRIPTS["free-with-a-target-in-a-freed-body"] = lines(
     "reserve 64", "reserve 64", "activate 16448", "activate 16576", "onfree 16448 16576 5",
     "free 16576", "free 16448", "reserve 64", "free 16448", "walk")
 
-# A RESERVED clump drops its list, valid or not.
+# A RESERVED clump with no onfree entry drops its list, valid or not.
 SCRIPTS["free-of-reserved-drops-its-list"] = lines(
     "reserve 64", "reserve 64", "onactive 16448 16576 5", "free 16576", "activate 16448",
     "free 16448", "walk")
 
+# FREE allows none of them, ACTIVE neither activate nor onactive; RESERVED allows all.
 SCRIPTS["states-that-do-not-allow-it"] = lines(
     "activate 16448", "free 16448", "onactive 16448 4096 1", "onfree 16448 4096 1",
-    "withdraw 16448", "reserve 64", "onfree 16448 4096 1", "activate 16448",
-    "activate 16448", "onactive 16448 4096 1", "free 16448", "free 16448")
+    "withdraw 16448", "reserve 64", "activate 16448", "activate 16448",
+    "onactive 16448 4096 1", "free 16448", "free 16448")
 
 SCRIPTS["no-clump-at-that-offset"] = lines(
     "reserve 64", "activate 16384", "activate 16447", "activate 16449", "activate 16456",
     "activate 16512", "activate 0", "activate 64", "activate 63", "free 32768",
     "withdraw 4096", "onactive 16576 4096 1", "onactive 16575 1 1", "onfree 1 1 1",
     "activate %d" % LARGEST, "free %d" % (LARGEST - 63), "walk")
+
+# ---------------------------------------------------------------------------
+# Onfree before activation (W4 of document 02)
+# ---------------------------------------------------------------------------
+
+# A record that is to be linked when it is activated and unlinked when it is freed,
+# both asked for while it is RESERVED.  The activation makes 4 stores, for the one
+# onactive entry; the onfree entry waits in its place, and the freeing makes 3 and the
+# join.  Then the same record is given up before it is activated: its onactive entry
+# is emptied and its onfree entry carried out, 4 stores and the join.
+SCRIPTS["onfree-before-activation"] = lines(
+    "reserve 64", "onactive 16448 4096 16448", "onfree 16448 4096 0", "activate 16448",
+    "walk", "free 16448", "walk",
+    "reserve 64", "onactive 16448 4096 16448", "onfree 16448 4096 0", "free 16448", "walk")
+
+# Onfree only, on RESERVED: activation has nothing to carry out, nor has recovery.
+SCRIPTS["onfree-before-activation-alone"] = lines(
+    "reserve 64", "onfree 16448 4096 1", "onfree 16448 4104 2", "onfree 16448 4112 3",
+    "onfree 16448 4120 4", "onactive 16448 4120 4", "activate 16448", "onfree 16448 4120 4",
+    "onactive 16448 4120 4", "free 16448", "walk",
+    "reserve 64", "onfree 16448 4096 1", "recover", "walk", "free 16448")
+
+# The number asked for is the target, without a mark: an odd one isn't valid.
+SCRIPTS["onfree-with-odd-targets"] = lines(
+    "reserve 64", "onfree 16448 4097 1", "onfree 16448 1 1", "onfree 16448 0 1",
+    "onfree 16448 8185 1", "onfree 16448 16449 1", "onactive 16448 4097 1",
+    "onfree 16448 4096 1", "onfree 16448 8184 1", "onfree 16448 16504 1", "activate 16448",
+    "free 16448", "reserve 64", "activate 16448", "onfree 16448 4097 1",
+    "onfree 16448 4096 1", "walk")
+
+# Free of a RESERVED clump judges its onfree entries and no others; activate the
+# onactive entries and no others; free of an ACTIVE clump what is left.  16576 is the
+# body of the clump that is freed in between.
+SCRIPTS["onfree-with-a-target-in-a-freed-body"] = lines(
+    "reserve 64", "reserve 64", "onfree 16448 16576 5", "onactive 16448 4096 6",
+    "free 16576", "free 16448", "activate 16448", "free 16448", "withdraw 16448",
+    "free 16448", "walk",
+    "reserve 64", "reserve 64", "onactive 16448 16576 5", "onfree 16448 4096 6",
+    "free 16576", "activate 16448", "free 16448", "walk")
+
+# An activation leaves an onfree entry at the third place, with gaps before it: the
+# list is full, until that entry is withdrawn; then all three places are free.
+SCRIPTS["list-full-with-gaps"] = lines(
+    "reserve 64", "onactive 16448 4096 1", "onactive 16448 4104 2", "onfree 16448 4112 3",
+    "activate 16448", "onfree 16448 4120 4", "onfree 16448 8192 4", "withdraw 16448",
+    "withdraw 16448", "onfree 16448 4096 1", "onfree 16448 4104 2", "onfree 16448 4112 3",
+    "onfree 16448 4120 4", "free 16448", "walk")
+
+# The same with the entry at the second place: one more has room behind it, none in
+# the gap before it; withdraw takes the last one first.
+SCRIPTS["list-with-a-gap"] = lines(
+    "reserve 64", "onactive 16448 4096 1", "onfree 16448 4104 2", "onactive 16448 4112 3",
+    "withdraw 16448", "activate 16448", "onfree 16448 4120 4", "onfree 16448 4128 5",
+    "withdraw 16448", "onfree 16448 4120 4", "withdraw 16448", "withdraw 16448",
+    "withdraw 16448", "free 16448", "walk")
+
+
+# Every list that the requests make on a RESERVED clump: none to three entries, each
+# of onactive (a) or of onfree (f).
+RESERVED_LISTS = ("", "a", "f", "aa", "af", "fa", "ff",
+                  "aaa", "aaf", "afa", "aff", "faa", "faf", "ffa", "fff")
+
+
+# The lines that make such a list on the clump with its body at the offset.
+def listing(letters, offset):
+    names = {"a": "onactive", "f": "onfree"}
+    return ["%s %d %d %d" % (names[letter], offset, 4096 + 8 * at, 11 + at)
+            for at, letter in enumerate(letters)]
+
+
+# How many stores the free of such a clump makes between FREE neighbours: with an
+# onfree entry one for each entry and the states FREEING and FREE, else FREE alone;
+# and two joins.
+def freeing_stores(letters):
+    return len(letters) + 4 if "f" in letters else 3
+
+
+# Free of a RESERVED clump with each list, between FREE neighbours, at every cut and
+# uncut; then recovery and walk.
+SCRIPTS["recovery-of-a-freeing-of-reserved-at-every-cut"] = lines(*(
+    line for letters in RESERVED_LISTS for fuse in range(freeing_stores(letters) + 1)
+    for line in
+    ("reserve 64", "reserve 64", "reserve 64", "free 16448", "free 16704",
+     *listing(letters, 16576), "fuse %d" % fuse, "free 16576", "walk", "recover", "walk")))
+
+# Activation of each list with an onfree entry, at every cut and uncut; recovery; then
+# withdraw shows whether an entry waited, and the free carries out the rest.
+SCRIPTS["recovery-of-an-activation-with-onfree-at-every-cut"] = lines(*(
+    line for letters in RESERVED_LISTS if "f" in letters
+    for fuse in range(2 * letters.count("a") + 3) for line in
+    ("reserve 64", *listing(letters, 16448), "fuse %d" % fuse, "activate 16448", "walk",
+     "recover", "walk", "onfree 16448 8184 9", "withdraw 16448", "free 16448", "walk")))
+
+# A free that is cut before the clump is FREEING leaves it RESERVED, with gaps in its
+# list where the onactive entries were emptied; the pool is settled, and what is asked
+# next goes on from there.
+SCRIPTS["freeing-of-reserved-cut-and-asked-again"] = lines(*(
+    line for fuse in (0, 1, 2) for asked in
+    ("free 16448", "activate 16448", "withdraw 16448", "onfree 16448 4120 4",
+     "onactive 16448 4120 4", "reserve 64") for line in
+    ("reserve 64", *listing("afa", 16448), "fuse %d" % fuse, "free 16448", "walk", asked,
+     "free 16448", "walk", "recover", "free 16448", "walk")))
 
 # ---------------------------------------------------------------------------
 # Fuses
@@ -338,7 +441,8 @@ SCRIPTS["offset-from-before-a-recovery"] = lines(
 # The lower answer comes first where several tests hold.
 SCRIPTS["lower-answer-first"] = lines(
     "reserve 64", "onactive 16448 4096 1", "onactive 16448 4096 1", "onactive 16448 4096 1",
-    "onactive 16448 1 1", "onfree 16448 1 1", "onactive 16449 1 1", "withdraw 16576",
+    "onactive 16448 1 1", "onfree 16448 1 1", "onfree 16576 1 1", "onactive 16449 1 1",
+    "withdraw 16576",
     "withdraw 16577", "activate 16576", "fuse 1", "free 16448", "onactive 16449 1 1",
     "reserve 0", "recover", "reserve 16320", "reserve 0", "walk")
 

@@ -1,5 +1,5 @@
-"""Holds the model against document 01 and request W1 of document 02: their numbers,
-worked by hand, and their rules.
+"""Holds the model against document 01 and requests W1 and W4 of document 02: their
+numbers, worked by hand, and their rules.
 
     python3 -m unittest discover -s tests/model
 """
@@ -12,8 +12,9 @@ import generate
 import pool
 import program
 from build import (
-    Dice, MIXED, MIXED_ACTIVE, MIXED_BARE_ACTIVE, MIXED_FREE, MIXED_RESERVED, after, case,
-    clump, dusty, filled, fresh, pool_of, with_words)
+    Dice, EMPTY, MARKED, MIXED, MIXED_ACTIVE, MIXED_BARE_ACTIVE, MIXED_FREE,
+    MIXED_RESERVED, MIXTURES, UNMARKED, after, case, clump, dusty, filled, fresh,
+    mixed_entries, mixture_pool, pool_of, stores_of, with_words)
 from pool import FREE, RESERVED, ACTIVATING, ACTIVE, FREEING, LARGEST
 from scripts import SCRIPTS
 
@@ -211,8 +212,6 @@ class Soundness(unittest.TestCase):
             self.assert_fault(with_words(self.three(), {16520: state}), 2, 16512)
 
     def test_list(self):
-        self.assert_fault(self.three(ACTIVE, (0, 1), (4096, 1)), 3, 16512)
-        self.assert_fault(self.three(RESERVED, (4096, 1), (0, 1), (4096, 1)), 3, 16512)
         for target in (1, 4088, 4100, 8192, 16376, 16828, 16832, LARGEST):
             self.assert_fault(self.three(RESERVED, (target, 1)), 3, 16512)
         for target in (4096, 8184, 16384, 16824):
@@ -253,7 +252,21 @@ class Soundness(unittest.TestCase):
             self.assertEqual(sum(totals), len(image) - 16384)
 
 
-class Stores(unittest.TestCase):
+# What is expected of a request's stores, each of which changes its word.
+class WordByWord(unittest.TestCase):
+
+    def assert_order(self, image, name, numbers, expected):
+        for fuse in range(len(expected)):
+            before = after(image, name, *numbers, fuse=fuse)
+            behind = after(image, name, *numbers, fuse=fuse + 1)
+            offset, value = expected[fuse]
+            self.assertEqual(changed_words(before, behind), [offset])
+            self.assertEqual(pool.word(behind, offset), value)
+        whole = pool.ask(bytearray(image), name, numbers)
+        self.assertEqual((whole.answer, whole.stores), (0, len(expected)))
+
+
+class Stores(WordByWord):
 
     # Free of an ACTIVE clump with three entries between FREE neighbours, word by
     # word: "At most 7 stores."
@@ -285,17 +298,7 @@ class Stores(unittest.TestCase):
 
     def test_order_of_an_entry(self):
         image = pool_of(clump(128, ACTIVE, (4096, 1)))
-        self.assert_order(image, "onfree", (16448, 16504, 6), [(16424, 6), (16416, 16504)])
-
-    def assert_order(self, image, name, numbers, expected):
-        for fuse in range(len(expected)):
-            before = after(image, name, *numbers, fuse=fuse)
-            behind = after(image, name, *numbers, fuse=fuse + 1)
-            offset, value = expected[fuse]
-            self.assertEqual(changed_words(before, behind), [offset])
-            self.assertEqual(pool.word(behind, offset), value)
-        whole = pool.ask(bytearray(image), name, numbers)
-        self.assertEqual((whole.answer, whole.stores), (0, len(expected)))
+        self.assert_order(image, "onfree", (16448, 16504, 6), [(16424, 6), (16416, 16505)])
 
 
 # ---------------------------------------------------------------------------
@@ -505,26 +508,445 @@ class BytesToFlush(unittest.TestCase):
 
 
 # ---------------------------------------------------------------------------
-# Rules over many random pools
+# W4: "onfree before activation"
 # ---------------------------------------------------------------------------
-
-# The requests whose cut leaves nothing behind.
-UNDONE_BY_A_CUT = ("reserve", "onactive", "onfree", "withdraw", "recover")
-
 
 def recovered(image):
     return after(image, "recover")
 
 
+# The stored words of the list of the clump with its header at the offset.
+def stored_words(image, offset):
+    return [pool.word(image, offset + at) for at in (16, 32, 48)]
+
+
+class OnfreeBeforeActivation(WordByWord):
+
+    def assert_answer(self, answer, image, name, *numbers):
+        self.assertEqual(pool.ask(bytearray(image), name, numbers).answer, answer)
+
+    def assert_fault(self, fault, place, image):
+        self.assertEqual(pool.check(image)[0], (2, place, fault, 0, 0, 0))
+
+    # The clump with the entries at 16384 (body 16448), one with a FREE body (16576),
+    # and an ACTIVE one, which is the last.
+    def beside_free(self, state, *entries):
+        return pool_of(clump(128, state, *entries), clump(128, FREE), clump(128, ACTIVE))
+
+    # "Source document 003 lets reserved memory be freed with its onfree assignments
+    # carried out [..].  Mend it so."
+    def test_reserved_memory_is_freed_with_its_assignments(self):
+        image = fresh(32768)
+        pool.reserve(image, 64)
+        pool.onfree(image, 16448, 4096, 7)
+        self.assertEqual(pool.free(image, 16448), (0, 16448, 0, 4, 4096, 16400))
+        self.assertEqual(pool.word(image, 4096), 7)
+        self.assertEqual(tiles(image), [(16384, FREE)])
+
+    # "Bit 0 of a stored target marks an onfree entry; the target is the number without
+    # it, and only a stored 0 is empty."
+    def test_bit_0(self):
+        image = pool_of(clump(128, RESERVED, (4097, 7), (0, 8), (4104, 9)))
+        (one,) = pool.walk(image)
+        self.assertEqual([pool.is_marked(entry) for entry in one.entries], [True, False, False])
+        self.assertEqual([pool.target_of(entry) for entry in one.entries], [4096, 0, 4104])
+        self.assertEqual([pool.is_used(entry) for entry in one.entries], [True, False, True])
+        self.assert_order(image, "free", (16448,),
+                          [(16432, 0), (16392, 4), (4096, 7), (16392, 0)])
+
+    # A stored 1 isn't empty: its target is 0, which is out of range and not valid.  A
+    # stored 3 or 4099 is marked too, and its target isn't divisible by 8.
+    def test_only_a_stored_0_is_empty(self):
+        for stored in (1, 3, 4099, 4101):
+            for state, fault in ((RESERVED, 3), (ACTIVATING, 3), (ACTIVE, 3), (FREEING, 5)):
+                self.assert_fault(fault, 16384, self.beside_free(state, (stored, 1)))
+            self.assert_answer(0, pool_of(clump(128, FREE, (stored, 1))), "check")
+
+    # "Onfree always writes it and now takes RESERVED too."
+    def test_onfree_writes_it(self):
+        for state in (RESERVED, ACTIVE):
+            image = pool_of(clump(128, state))
+            self.assert_order(image, "onfree", (16448, 4096, 6), [(16408, 6), (16400, 4097)])
+        self.assert_answer(7, pool_of(clump(128, FREE)), "onfree", 16448, 4096, 6)
+        for state in (ACTIVATING, FREEING):
+            self.assert_answer(3, pool_of(clump(128, state)), "onfree", 16448, 4096, 6)
+
+    # Onactive never writes it, and still takes RESERVED alone.
+    def test_onactive_does_not(self):
+        image = pool_of(clump(128, RESERVED))
+        self.assert_order(image, "onactive", (16448, 4096, 6), [(16408, 6), (16400, 4096)])
+        self.assert_answer(7, pool_of(clump(128, ACTIVE)), "onactive", 16448, 4096, 6)
+
+    # The mark is one of "a stored target": a target asked for with bit 0 set isn't
+    # divisible by 8.
+    def test_odd_targets_asked_for(self):
+        for target in (1, 4097, 8185, 16449, LARGEST):
+            self.assert_answer(10, pool_of(clump(128, RESERVED)), "onactive", 16448, target, 1)
+            for state in (RESERVED, ACTIVE):
+                self.assert_answer(10, pool_of(clump(128, state)), "onfree", 16448, target, 1)
+
+    # "A new entry goes after the last used one, answer 8 if that is the third."
+    def test_a_new_entry(self):
+        for mixture in MIXTURES:
+            last = max([at + 1 for at in range(3) if mixture[at] != EMPTY], default=0)
+            for state, name, mark in ((RESERVED, "onactive", 0), (RESERVED, "onfree", 1),
+                                      (ACTIVE, "onfree", 1)):
+                image = mixture_pool(state, mixture)
+                if last == 3:
+                    self.assert_answer(8, image, name, 16576, 8184, 5)
+                    self.assert_answer(8, image, name, 16576, 8192, 5)
+                else:
+                    at = 16512 + 16 + 16 * last
+                    self.assert_order(image, name, (16576, 8184, 5),
+                                      [(at + 8, 5), (at, 8184 + mark)])
+
+    # "0 to the last used target", marked or not.
+    def test_withdraw(self):
+        for mixture in MIXTURES:
+            used = [at for at in range(3) if mixture[at] != EMPTY]
+            for state in (RESERVED, ACTIVE):
+                image = mixture_pool(state, mixture)
+                if used:
+                    self.assert_order(image, "withdraw", (16576,),
+                                      [(16512 + 16 + 16 * used[-1], 0)])
+                else:
+                    self.assert_answer(9, image, "withdraw", 16576)
+
+    # "Gaps are now sound in every state."
+    def test_gaps(self):
+        for mixture in MIXTURES:
+            for state in range(5):
+                self.assert_answer(0, mixture_pool(state, mixture), "check")
+
+    # "Activate, and recovery of an ACTIVATING clump, judge, carry out and empty the
+    # unmarked entries; marked ones wait".
+    def test_activate(self):
+        image = pool_of(clump(128, RESERVED, (4096, 1), (4105, 2), (4112, 3)))
+        finish = [(4096, 1), (4112, 3), (16400, 0), (16432, 0), (16392, 3)]
+        self.assert_order(image, "activate", (16448,), [(16392, 2)] + finish)
+        self.assertEqual(stored_words(after(image, "activate", 16448), 16384), [0, 4105, 0])
+        activating = with_words(image, {16392: ACTIVATING})
+        self.assert_order(activating, "recover", (), finish)
+
+    # The same of each mixture: 2 + 2e stores, with e unmarked entries.
+    def test_marked_ones_wait(self):
+        for mixture in MIXTURES:
+            image = mixture_pool(RESERVED, mixture)
+            waiting = [4097 + 8 * at if mixture[at] == MARKED else 0 for at in range(3)]
+            assigned = [71 + at if mixture[at] == UNMARKED else 0 for at in range(3)]
+            count = mixture.count(UNMARKED)
+            self.assertEqual(stores_of(image, "activate", (16576,)), 2 + 2 * count)
+            activating = with_words(image, {16520: ACTIVATING})
+            self.assertEqual(stores_of(activating, "recover", ()), 1 + 2 * count)
+            for behind in (after(image, "activate", 16576), recovered(activating)):
+                self.assertEqual(stored_words(behind, 16512), waiting)
+                self.assertEqual([pool.word(behind, 4096 + 8 * at) for at in range(3)], assigned)
+                self.assertEqual(tiles(behind), [(128, ACTIVE)] * 3)
+
+    # Activate judges "the unmarked entries": 16576 lies in a FREE body.
+    def test_activate_judges_the_unmarked(self):
+        self.assert_answer(10, self.beside_free(RESERVED, (16576, 1)), "activate", 16448)
+        self.assert_answer(10, self.beside_free(RESERVED, (4097, 1), (16576, 2)),
+                           "activate", 16448)
+        self.assert_answer(0, self.beside_free(RESERVED, (16577, 1)), "activate", 16448)
+        self.assert_answer(0, self.beside_free(RESERVED, (4096, 1), (16577, 2)),
+                           "activate", 16448)
+
+    # "judged there by the rest of fault 3": by range alone, and with faults 1 to 3.
+    def test_waiting_entries_are_judged_by_range(self):
+        for target in (0, 4088, 4098, 8192, 16376, 16768, 2**63 + 4096):
+            image = self.beside_free(ACTIVATING, (0, 1), (target + 1, 1))
+            self.assert_fault(3, 16384, image)
+            self.assert_fault(3, 16384, with_words(image, {16648: FREEING}))
+            self.assert_fault(3, 16384, with_words(image, {16640: 64}))
+        # Headers, a FREE body, live bodies, the ends of the static area and the image.
+        for target in (4096, 8184, 16384, 16448, 16512, 16576, 16760):
+            image = self.beside_free(ACTIVATING, (0, 1), (target + 1, 1))
+            self.assert_answer(0, image, "check")
+            self.assertEqual(stored_words(recovered(image), 16384), [0, target + 1, 0])
+
+    # The unmarked entries of an ACTIVATING clump are fault 5's, not fault 3's.
+    def test_unmarked_entries_are_judged_by_validity(self):
+        for target in (4088, 4098, 8192, 16384, 16512, 16576, 16768):
+            self.assert_fault(5, 16384, self.beside_free(ACTIVATING, (4097, 1), (target, 1)))
+        both = self.beside_free(ACTIVATING, (16576, 1), (8193, 1))
+        self.assert_fault(3, 16384, both)
+
+    # "fault 5 looks at them only in a FREEING clump."
+    def test_marked_entries_in_a_freeing_clump(self):
+        for target in (0, 4088, 4098, 8192, 16384, 16512, 16576, 16768):
+            self.assert_fault(5, 16384, self.beside_free(FREEING, (4096, 1), (target + 1, 1)))
+        for target in (4096, 8184, 16448, 16704, 16760):
+            self.assert_answer(0, self.beside_free(FREEING, (target + 1, 1)), "check")
+
+    # "An unmarked entry of an ACTIVE or FREEING clump is an old onfree and counts as
+    # one."  All are carried out in list order.
+    def test_old_onfree(self):
+        for mixture in MIXTURES:
+            listed = [(4096 + 8 * at, 71 + at) for at in range(3) if mixture[at] != EMPTY]
+            active = mixture_pool(ACTIVE, mixture)
+            self.assert_order(active, "free", (16576,), [(16520, 4)] + listed + [(16520, 0)])
+            freeing = mixture_pool(FREEING, mixture)
+            self.assert_order(freeing, "recover", (), listed + [(16520, 0)])
+
+    # It is judged as one too, like the marked ones: 10 if any isn't valid.
+    def test_free_of_active_judges_all(self):
+        for stored in (16576, 16577):
+            self.assert_answer(10, self.beside_free(ACTIVE, (4097, 1), (stored, 1)),
+                               "free", 16448)
+
+    # "Free of a RESERVED clump with no marked entry stays as in 01": one store.
+    def test_free_of_reserved_with_no_marked_entry(self):
+        for mixture in MIXTURES:
+            if MARKED not in mixture:
+                self.assert_order(mixture_pool(RESERVED, mixture), "free", (16576,),
+                                  [(16520, 0)])
+        self.assert_answer(0, self.beside_free(RESERVED, (16576, 1)), "free", 16448)
+
+    # "otherwise it judges those, empties the unmarked ones first to last and goes by
+    # FREEING": with 3 entries and both joins 7 stores, 01's "At most 7 stores."
+    def test_free_of_reserved_goes_by_freeing(self):
+        for mixture in MIXTURES:
+            if MARKED in mixture:
+                emptied = [(16528 + 16 * at, 0) for at in range(3) if mixture[at] == UNMARKED]
+                listed = [(4096 + 8 * at, 71 + at) for at in range(3) if mixture[at] == MARKED]
+                expected = (emptied + [(16520, 4)] + listed
+                            + [(16520, 0), (16512, 256), (16384, 384)])
+                self.assertLessEqual(len(expected), 7)
+                self.assert_order(mixture_pool(RESERVED, mixture, FREE, FREE), "free", (16576,),
+                                  expected)
+
+    # It judges the marked ones, and not the unmarked ones, which it drops.
+    def test_free_of_reserved_judges_the_marked(self):
+        self.assert_answer(10, self.beside_free(RESERVED, (16577, 1)), "free", 16448)
+        self.assert_answer(10, self.beside_free(RESERVED, (4096, 1), (4097, 1), (16577, 1)),
+                           "free", 16448)
+        self.assert_answer(0, self.beside_free(RESERVED, (16576, 1), (4097, 1)), "free", 16448)
+
+    # "Cut before the FREEING store, it reads as not asked."  From that store on it
+    # reads as finished.  Without a mark, 01's rule: the first store.
+    def test_turning_store(self):
+        for mixture in MIXTURES:
+            image = mixture_pool(RESERVED, mixture)
+            turn = mixture.count(UNMARKED) + 1 if MARKED in mixture else 1
+            self.assertEqual(pool.turning_store(image, "free", (16576,)), turn)
+            self.assertEqual(pool.turning_store(image, "activate", (16576,)), 1)
+            active = mixture_pool(ACTIVE, mixture)
+            self.assertEqual(pool.turning_store(active, "free", (16576,)), 1)
+            if MARKED in mixture:
+                before = after(image, "free", 16576, fuse=turn - 1)
+                behind = after(image, "free", 16576, fuse=turn)
+                self.assertEqual(tiles(before)[1], (128, RESERVED))
+                self.assertEqual(tiles(behind)[1], (128, FREEING))
+                self.assertEqual(recovered(before)[4096:8192], bytes(4096))
+                self.assertEqual(recovered(behind)[4096:8192],
+                                 after(image, "free", 16576)[4096:8192])
+                self.assertNotEqual(recovered(behind)[4096:8192], bytes(4096))
+        for name, numbers in (("reserve", (1,)), ("onactive", (16576, 4096, 1)),
+                              ("onfree", (16576, 4096, 1)), ("withdraw", (16576,)),
+                              ("recover", ())):
+            self.assertEqual(pool.turning_store(mixture_pool(RESERVED, (UNMARKED, MARKED, EMPTY)),
+                                                name, numbers), 0)
+
+    # "Recovery of a RESERVED clump still carries out nothing."
+    def test_recovery_of_reserved(self):
+        for mixture in MIXTURES:
+            self.assert_order(mixture_pool(RESERVED, mixture), "recover", (), [(16520, 0)])
+
+    # The reading gives each used entry with its place, mark, target and value.
+    def test_reading(self):
+        image = pool_of(clump(128, ACTIVE, (4096, 1), (0, 2), (4097, 3)),
+                        clump(128, ACTIVATING, (4096, 4)), clump(128, RESERVED, (0, 5)))
+        lists = pool.reading(image)[1]
+        self.assertEqual(lists, [(16384, [(16400, False, 4096, 1), (16432, True, 4096, 3)]),
+                                 (16640, [])])
+        # An entry at another place is another reading, since answer 8 tells them apart.
+        one = pool_of(clump(128, ACTIVE, (4097, 1)))
+        other = pool_of(clump(128, ACTIVE, (0, 1), (0, 1), (4097, 1)))
+        self.assertNotEqual(pool.reading(one), pool.reading(other))
+        self.assert_answer(0, one, "onfree", 16448, 4096, 1)
+        self.assert_answer(8, other, "onfree", 16448, 4096, 1)
+
+    # The last one of equal targets wins, among those that are carried out together.
+    def test_equal_targets(self):
+        entries = mixed_entries((UNMARKED, MARKED, UNMARKED), (4096, 4096, 4096))
+        reserved = pool_of(clump(128, RESERVED, *entries))
+        active = after(reserved, "activate", 16448)
+        self.assertEqual(pool.word(active, 4096), 73)
+        self.assertEqual(pool.word(after(active, "free", 16448), 4096), 72)
+        self.assertEqual(pool.word(after(reserved, "free", 16448), 4096), 72)
+        old = pool_of(clump(128, ACTIVE, *entries))
+        self.assertEqual(pool.word(after(old, "free", 16448), 4096), 73)
+
+
+# The requests that each mixture is asked: (image, name, numbers).
+def mixtures_asked():
+    for mixture in MIXTURES:
+        for neighbours in ((ACTIVE, ACTIVE), (FREE, FREE), (RESERVED, FREE)):
+            for state in (RESERVED, ACTIVE):
+                image = dusty(mixture_pool(state, mixture, *neighbours), 21)
+                for name, numbers in (("reserve", (64,)), ("onactive", (16576, 4096, 1)),
+                                      ("onfree", (16576, 16576, 1)), ("withdraw", (16576,)),
+                                      ("activate", (16576,)), ("free", (16576,)),
+                                      ("recover", ())):
+                    yield image, name, numbers
+            for state in (ACTIVATING, FREEING):
+                yield dusty(mixture_pool(state, mixture, *neighbours), 22), "recover", ()
+
+
+class CutsOfMixtures(unittest.TestCase):
+
+    # 01's rule for cuts, with W4's turn: after recovery the reading is that of
+    # recovering the image before the request or the finished one, for every request
+    # that isn't refused, at every cut, with every mixture of marks.  Every cut leaves a
+    # sound pool.
+    def test_reading_after_a_cut(self):
+        tried = set()
+        for image, name, numbers in mixtures_asked():
+            given = pool.ask(bytearray(image), name, numbers)
+            if given.answer != 0:
+                continue
+            readings = (pool.reading(recovered(image)),
+                        pool.reading(recovered(after(image, name, *numbers))))
+            for fuse in range(given.stores):
+                cut = after(image, name, *numbers, fuse=fuse)
+                self.assertEqual(pool.check(cut)[0].answer, 0)
+                finished = pool.reads_as_finished(image, name, numbers, fuse)
+                self.assertEqual(pool.reading(recovered(cut)), readings[finished])
+                if readings[0] != readings[1]:
+                    tried.add((name, finished))
+        # Where the two readings differ, both are met.
+        for name in ("activate", "free"):
+            self.assertLessEqual({(name, False), (name, True)}, tried)
+
+    # A recovery that is cut, and recovered, reads as one that wasn't; a second one
+    # makes no store.
+    def test_recovery_after_a_cut(self):
+        for image, name, numbers in mixtures_asked():
+            if name not in ("activate", "free", "recover"):
+                continue
+            for fuse in range(pool.ask(bytearray(image), name, numbers).stores):
+                cut = after(image, name, *numbers, fuse=fuse)
+                whole = recovered(cut)
+                self.assertEqual(stores_of(whole, "recover", ()), 0)
+                for again in range(stores_of(cut, "recover", ())):
+                    twice = recovered(after(cut, "recover", fuse=again))
+                    self.assertEqual(pool.reading(twice), pool.reading(whole))
+
+
+# What 01 says of a pool in which no stored target has bit 0 set and which 01 calls
+# sound, in 01's words and in the stored words: W4 changes none of it, but onfree.
+class AsBefore(unittest.TestCase):
+
+    # Of a clump's list: the offsets of the used entries' target words, their targets
+    # and values; and the offset of the first empty entry's, if there is one.
+    def list_of(self, image, offset):
+        words = [(at, pool.word(image, at), pool.word(image, at + 8))
+                 for at in range(offset + 16, offset + 64, 16)]
+        return ([entry for entry in words if entry[1] != 0],
+                [at for at, target, _ in words if target == 0][:1])
+
+    # "10 | target not valid", of every used one.
+    def any_bad(self, image, used):
+        clumps = list(pool.walk(image))
+        return any(not pool.is_valid(clumps, target) for _, target, _ in used)
+
+    # "each value to its target, in list order"; "0 to each used target word of the
+    # list, first to last"
+    def assigned(self, used):
+        return [(target, value) for _, target, value in used]
+
+    def emptied(self, used):
+        return [(at, 0) for at, _, _ in used]
+
+    # The answer and the stores of a request on the clump with the header at the offset.
+    def expected(self, image, name, offset, target, value):
+        used, empty = self.list_of(image, offset)
+        clumps = list(pool.walk(image))
+        (one,) = [each for each in clumps if each.offset == offset]
+        wanted = {"onactive": (RESERVED,), "activate": (RESERVED,),
+                  "withdraw": (RESERVED, ACTIVE), "free": (RESERVED, ACTIVE)}
+        joins = pool.join_stores(clumps, one)
+        if one.state not in wanted[name]:
+            return 7, []
+        if name == "onactive":
+            if not empty:
+                return 8, []
+            if not pool.is_valid(clumps, target):
+                return 10, []
+            return 0, [(empty[0] + 8, value), (empty[0], target)]
+        if name == "withdraw":
+            return (0, [(used[-1][0], 0)]) if used else (9, [])
+        if name == "free" and one.state == RESERVED:
+            return 0, [(offset + 8, FREE)] + joins
+        if self.any_bad(image, used):
+            return 10, []
+        if name == "free":
+            return 0, [(offset + 8, FREEING)] + self.assigned(used) + [(offset + 8, FREE)] + joins
+        return 0, ([(offset + 8, ACTIVATING)] + self.assigned(used) + self.emptied(used)
+                   + [(offset + 8, ACTIVE)])
+
+    def assert_stores(self, image, name, numbers, answer, stores):
+        for fuse in list(range(len(stores))) + [LARGEST]:
+            expected = bytearray(image)
+            for offset, value in stores[:fuse]:
+                pool.put_word(expected, offset, value)
+            asked = bytearray(image)
+            given = pool.ask(asked, name, numbers, fuse)
+            cut = len(stores) > fuse
+            self.assertEqual((given.answer, given.stores),
+                             (11, fuse) if cut else (answer, len(stores)))
+            self.assertEqual(asked, expected)
+
+    def test_requests_on_a_list(self):
+        dice = Dice(31)
+        answers = set()
+        for _ in range(300):
+            image = cases.sound_pool(dice, settled=True)
+            one = dice.pick(list(pool.walk(image)))
+            target = cases.some_target(dice, len(image))
+            for name in ("onactive", "withdraw", "activate", "free"):
+                numbers = (one.offset + 64, target, 5)[:pool.NUMBERS_TAKEN[name]]
+                answer, stores = self.expected(image, name, one.offset, target, 5)
+                self.assert_stores(image, name, numbers, answer, stores)
+                answers.add((name, answer))
+        self.assertEqual(answers, {
+            ("onactive", 0), ("onactive", 7), ("onactive", 8), ("onactive", 10),
+            ("withdraw", 0), ("withdraw", 7), ("withdraw", 9), ("activate", 0),
+            ("activate", 7), ("activate", 10), ("free", 0), ("free", 7), ("free", 10)})
+
+    # "finish the ACTIVATING clump (assign, empty the list, ACTIVE) or the FREEING one
+    # (assign, FREE)": every used entry, with empty ones anywhere.
+    def test_recover(self):
+        for state in (ACTIVATING, FREEING):
+            for mixture in MIXTURES:
+                if MARKED in mixture:
+                    continue
+                image = mixture_pool(state, mixture, FREE, RESERVED)
+                used, _ = self.list_of(image, 16512)
+                if state == ACTIVATING:
+                    stores = self.assigned(used) + self.emptied(used) + [
+                        (16520, ACTIVE), (16648, FREE)]
+                else:
+                    stores = self.assigned(used) + [(16520, FREE), (16648, FREE), (16384, 384)]
+                self.assert_stores(image, "recover", (), 0, stores)
+
+
+# ---------------------------------------------------------------------------
+# Rules over many random pools
+# ---------------------------------------------------------------------------
+
 class OverManyPools(unittest.TestCase):
 
-    # Requests that a random sound pool doesn't refuse.
+    # Requests that a random sound pool doesn't refuse; every second pool has marks and
+    # gaps in its lists.
     def accepted(self, seed, wanted):
         dice = Dice(seed)
         while wanted:
             name = dice.pick(("reserve", "onactive", "onfree", "withdraw", "activate", "free",
                               "recover"))
-            image = cases.sound_pool(dice, settled=name != "recover")
+            some_pool = dice.pick((cases.sound_pool, cases.marked_pool))
+            image = some_pool(dice, settled=name != "recover")
             bodies = [pool.body_of(one) for one in pool.walk(image)]
             numbers = cases.some_numbers(dice, image, name, bodies)
             given = pool.ask(bytearray(image), name, numbers)
@@ -535,15 +957,18 @@ class OverManyPools(unittest.TestCase):
     # "After a cut and recovery, the reading equals that of recovering the image
     # before the request, if the cut fell in reserve, onactive, onfree, withdraw
     # or recover, or before the first store.  It equals that of recovering the
-    # finished image if one or more stores of activate or free were made."
+    # finished image if one or more stores of activate or free were made."  W4, of a
+    # RESERVED clump with a marked entry: "Cut before the FREEING store, it reads as
+    # not asked."
     def test_reading_after_a_cut(self):
         tried = set()
-        for image, name, numbers, stores in self.accepted(11, 700):
+        for image, name, numbers, stores in self.accepted(27, 800):
             undone = pool.reading(recovered(image))
             finished = pool.reading(recovered(after(image, name, *numbers)))
             for fuse in range(stores):
                 cut = after(image, name, *numbers, fuse=fuse)
-                expected = undone if name in UNDONE_BY_A_CUT or fuse == 0 else finished
+                turned = pool.reads_as_finished(image, name, numbers, fuse)
+                expected = finished if turned else undone
                 self.assertEqual(pool.reading(recovered(cut)), expected)
                 tried.add((name, fuse))
         # Each kind of request, each with its last cut.
@@ -693,7 +1118,7 @@ class TheProgram(unittest.TestCase):
 # What the generator writes
 # ---------------------------------------------------------------------------
 
-# The answers that document 01 makes possible for each request.
+# The answers that document 01, with W4, makes possible for each request.
 POSSIBLE = {
     "create": {0, 1, 11}, "reserve": {0, 1, 2, 3, 4, 5, 11},
     "onactive": {0, 1, 2, 3, 6, 7, 8, 10, 11}, "onfree": {0, 1, 2, 3, 6, 7, 8, 10, 11},
@@ -708,7 +1133,7 @@ class TheGenerator(unittest.TestCase):
         cls.cases = cases.all_cases()
 
     def test_number_of_cases(self):
-        self.assertTrue(4000 <= len(self.cases) <= 5000, len(self.cases))
+        self.assertTrue(6000 <= len(self.cases) <= 7000, len(self.cases))
         self.assertGreaterEqual(len(SCRIPTS), 24)
 
     def test_every_answer_of_every_request(self):
@@ -815,6 +1240,20 @@ class TheGenerator(unittest.TestCase):
         ends = [pool.ask(bytearray(one.image), one.name, one.numbers, one.fuse).flush_to
                 for one in cases.last_word_assigned()]
         self.assertEqual(ends, [0] + [16528] * 2 + [65536] * 6)
+
+    # The families of mixtures are what they say: every mixture, freed and activated
+    # with every fuse up to the length of its list.
+    def test_mixtures(self):
+        for family, name in ((cases.mixtures_freed, "free"),
+                             (cases.mixtures_activated, "activate")):
+            fuses = {}
+            for one in family():
+                if one.name == name:
+                    fuses.setdefault(one.image, set()).add(one.fuse)
+            for image, tried in fuses.items():
+                length = stores_of(image, name, (16576,))
+                self.assertEqual(tried - {LARGEST}, set(range(length + 1)))
+            self.assertEqual(len({tuple(stored_words(image, 16512)) for image in fuses}), 27)
 
     # The line of a cut of 01's case H, worked by hand but for the sum.
     def test_outcome_line(self):

@@ -11,6 +11,7 @@ ghost use Rattle.seen.specs.States.{UpTo, takes, seen};
 ghost use Rattle.judge.specs.Forms.{judgedOf};
 use page::CLUMPS_AT;
 use page::clump::Clump;
+use page::entry;
 use seen::Seen;
 
 // No fault, or the first with its place.
@@ -75,8 +76,10 @@ pub fn judge(img: &[u8], s: Seen) -> Judged
     if s.first == 0 {
         return Judged::Sound;
     }
+    let c = Clump::read(img, s.first);
     let l = Clump::list(img, s.first);
-    if walk::all_valid(img, l) {
+    let due = entry::due(c.state, l);
+    if walk::all_valid(img, due) {
         return Judged::Sound;
     }
     Judged::Fault {

@@ -1,7 +1,7 @@
 -- How many stores a request makes that is done: as many as its grant has, since the fuse has lasted. By the lists as the rules spell
 -- them. Assumes nothing.
-use Prim.Native.Nat.{ℕ, _+_, _-_, _*_, _<_, _≤_}
-use mathlib.Core.Path.{_≡_, sym, ap, subst, _∙_}
+use Prim.Native.Nat.{ℕ, suc, _+_, _-_, _*_, _<_, _≤_}
+use mathlib.Core.Path.{_≡_, refl, sym, ap, subst, _∙_}
 use mathlib.Core.Bool.{Bool, true, false, cond}
 use mathlib.Core.Option.{Option, some, none}
 use mathlib.Core.List.{List, [], _∷_, _++_}
@@ -10,14 +10,16 @@ use lib.ListN.{length, length-append, length-map}
 use borrow.Author.Tests.{le-leb, lt-leb}
 use Rattle.rules.specs.declared.Request.{Request}
 use Rattle.rules.specs.declared.Request.the-variants.{Create, Reserve, Onactive, Onfree, Withdraw, Activate, Free, Check, Recover}
-use Rattle.rules.specs.Words.{Image, Mem, Store, mem}
+use Rattle.rules.specs.Lists.{those}
+use Rattle.rules.specs.Words.{Image, Mem, Store, store, mem}
 use Rattle.rules.specs.Pages.{clumpsAt}
-use Rattle.rules.specs.Clumps.{Head, hasState, isUsed, slots, usedSlots, entry, entries, FREE, ACTIVE, FREEING}
+use Rattle.rules.specs.Clumps.{Head, hasState, slots, Choice, used, marked, unmarked, slotsBy, entry, entriesBy, FREE, ACTIVE, FREEING}
 use Rattle.rules.specs.Answers.{flushOf, answerAt}
-use Rattle.rules.specs.Stores.{setState, leastRest, reserveStores, finishActivating, finishFreeing, activateStores, dropStores, joinBefore, joinBoth, freeAfter, freeBefore, freeStores, needOf, fits}
+use Rattle.rules.specs.Stores.{setState, leastRest, reserveStores, finishActivating, finishFreeing, activateStores, hasMarked, dropStores, emptying, joinBefore, joinBoth, freeAfter, freeBefore, freeStores, needOf, fits}
 use Rattle.rules.specs.Reading.{clumpsOf}
 use Rattle.rules.specs.Demands.{Counted, Counts}
-use Rattle.laws.specs.Searches.{those-few}
+use Rattle.laws.specs.Searches.{differ, those-few}
+use Rattle.laws.specs.Choices.{marked-apart}
 use Rattle.laws.specs.Tilings.{found-again}
 use Rattle.laws.specs.Pools.{pool-tiles}
 use Rattle.laws.specs.Founding.{create-length}
@@ -33,20 +35,57 @@ unfolding reserveStores
 whole-length need h l = rw (lt-leb leastRest (h .nbytes - need) (omega arith))
 
 -- a list carried out: its entries are three at most
-entries-few : (m : Mem) (a : ℕ) → length (entries m a) ≤ 3
-entries-few m a = omega (arith, length-map (usedSlots m a) (entry m), those-few (isUsed m) (slots a))
+entries-few : (c : Choice) (m : Mem) (a : ℕ) → length (entriesBy c m a) ≤ 3
+entries-few c m a = omega (arith, length-map (slotsBy c m a) (entry m), those-few (λ s. c (m s)) (slots a))
 
-activate-length : (m : Mem) (h : Head) → length (activateStores m h) ≡ 2 + 2 * length (entries m (h .at))
+-- the unmarked and the marked ones together too
+both-kinds : (m : Mem) (sl : List ℕ) → length (those (λ s. unmarked (m s)) sl) + length (those (λ s. marked (m s)) sl) ≤ length sl
+unfolding those
+both-kinds m [] = omega arith
+both-kinds m (s ∷ sl) = go (unmarked (m s)) refl (marked (m s)) refl (both-kinds m sl)
+  where
+    go :
+        (a : Bool)
+        → unmarked (m s) ≡ a
+        → (b : Bool)
+        → marked (m s) ≡ b
+        → length (those (λ t. unmarked (m t)) sl) + length (those (λ t. marked (m t)) sl) ≤ length sl
+        → length (cond a (s ∷ those (λ t. unmarked (m t)) sl) (those (λ t. unmarked (m t)) sl))
+        + length (cond b (s ∷ those (λ t. marked (m t)) sl) (those (λ t. marked (m t)) sl))
+        ≤ suc (length sl)
+    go true p true q l = differ p (marked-apart (m s) q)
+    go true p false q l = omega arith
+    go false p true q l = omega arith
+    go false p false q l = omega arith
+
+activate-length : (m : Mem) (h : Head) → length (activateStores m h) ≡ 2 + 2 * length (entriesBy unmarked m (h .at))
 unfolding activateStores finishActivating
 activate-length m h = simp (length-append, length-map) (omega arith)
 
 drop-few : (m : Mem) (h : Head) → length (dropStores m h) ≤ 5
 unfolding dropStores finishFreeing
-drop-few m h = go (hasState ACTIVE h)
+drop-few m h = go (hasState ACTIVE h) (hasMarked m h)
   where
-    go : (b : Bool) → length (cond b (setState h FREEING ∷ (entries m (h .at) ++ (setState h FREE ∷ []))) (setState h FREE ∷ [])) ≤ 5
-    go true = omega (arith, length-append (entries m (h .at)) (setState h FREE ∷ []), entries-few m (h .at))
-    go false = omega arith
+    go :
+        (b c : Bool)
+        → length
+        (cond b
+        (setState h FREEING ∷ (entriesBy used m (h .at) ++ (setState h FREE ∷ [])))
+        (cond c (emptying (slotsBy unmarked m (h .at)) ++ (setState h FREEING ∷ (entriesBy marked m (h .at) ++ (setState h FREE ∷ [])))) (setState h FREE ∷ [])))
+        ≤ 5
+    go true c = omega (arith, length-append (entriesBy used m (h .at)) (setState h FREE ∷ []), entries-few used m (h .at))
+    go false true =
+        let u = slotsBy unmarked m (h .at) in
+        let v = slotsBy marked m (h .at) in
+        omega (
+          arith,
+          length-append (emptying u) (setState h FREEING ∷ (entriesBy marked m (h .at) ++ (setState h FREE ∷ []))),
+          length-append (entriesBy marked m (h .at)) (setState h FREE ∷ []),
+          length-map u (λ s. store s 0),
+          length-map v (entry m),
+          both-kinds m (slots (h .at)),
+        )
+    go false false = omega arith
 
 -- the joins
 before-few : (o : Option Head) (s : ℕ) → length (joinBefore o s) ≤ 1
@@ -75,7 +114,7 @@ counted img (Onfree o t v) p st g = ap length (g .1)
 counted img (Withdraw o) p st g = ap length (g .2)
 counted img (Activate o) p st g =
     let e = activate-length (mem img) (g .0) in
-    rw (g .1, g .2) (e, omega (arith, e, entries-few (mem img) (g .0 .at)))
+    rw (g .1, g .2, g .3) (e, omega (arith, e, entries-few unmarked (mem img) (g .0 .at)))
 counted img (Free o) p st g = rw (g .2) (free-few (mem img) (clumpsOf img) (g .0))
 counted img Check p st e = ap length e
 counted img Recover p st e = tt

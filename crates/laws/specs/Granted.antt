@@ -15,11 +15,11 @@ use Rattle.rules.specs.declared.Request.the-variants.{Create, Reserve, Onactive
 use Rattle.rules.specs.Lists.{seek}
 use Rattle.rules.specs.Words.{Image, Mem, Store, mem}
 use Rattle.rules.specs.Pages.{isPool, rightLength}
-use Rattle.rules.specs.Clumps.{Head, bodyOf, RESERVED, ACTIVE, hasState, isWaiting, isEmpty, slots, usedSlots, walk}
+use Rattle.rules.specs.Clumps.{Head, bodyOf, RESERVED, hasState, isWaiting, slots, used, unmarked, withMark, freed, slotsBy, walk}
 use Rattle.rules.specs.Sound.{Fault, judge, unsettled, isValid, allValid}
 use Rattle.rules.specs.Answers.{done, notPool, notSound, notSettled, sizeZero, wrongState, badTarget, cutShort, Verdict, refused, granted, test, testFault, flushOf, answerAt, answerOf, ifSound, ifSettled}
 use Rattle.rules.specs.Stores.{createStores, needOf, fits, reserveStores, listStores, withdrawStores, activateStores, freeStores, recoverStores}
-use Rattle.rules.specs.Requests.{placed, reserve, finder, found, listed, enlist, withdrawn, withdraw, activate, mayDrop, free, verdict, verdictOn, answerOn}
+use Rattle.rules.specs.Requests.{placed, reserve, finder, found, listed, openSlot, enlist, withdrawn, withdraw, activate, free, verdict, verdictOn, answerOn}
 use Rattle.laws.specs.Pools.{Sound}
 
 -- a refusal has one of the answers 1 to 10, and a fault with answer 2 alone; of a grant's place and stores G holds
@@ -76,9 +76,9 @@ abbrev pub Grants : ℕ → Mem → Request → ℕ → List Store → Type 0
 Grants n m Create p st = st ≡ createStores n
 Grants n m (Reserve size) p st = Reserves n m size p st
 Grants n m (Onactive o t v) p st = Enlists t v p st
-Grants n m (Onfree o t v) p st = Enlists t v p st
+Grants n m (Onfree o t v) p st = Enlists (withMark t) v p st
 Grants n m (Withdraw o) p st = Withdraws p st
-Grants n m (Activate o) p st = (h : Head) × (finder (walk n m) o ≡ some h) × (st ≡ activateStores m h)
+Grants n m (Activate o) p st = (h : Head) × (finder (walk n m) o ≡ some h) × (hasState RESERVED h ≡ true) × (st ≡ activateStores m h)
 Grants n m (Free o) p st = (h : Head) × (finder (walk n m) o ≡ some h) × (st ≡ freeStores m (walk n m) h)
 Grants n m Check p st = st ≡ []
 Grants n m Recover p st = st ≡ recoverStores m (walk n m)
@@ -91,11 +91,11 @@ fair-listed : (b : Bool) (o : Option ℕ) (p t v : ℕ) → Fair (Enlists t v) (
 fair-listed b none p t v = (omega arith, omega arith, λ e. refl)
 fair-listed b (some s) p t v = fair-test (Enlists t v) (not b) badTarget _ (omega arith) (omega arith) (λ z. (s, refl))
 
-fair-enlist : (m : Mem) (hs : List Head) (a p t v : ℕ) (h : Head) → Fair (Enlists t v) (enlist m hs a p t v h)
+fair-enlist : (m : Mem) (hs : List Head) (a : Head → Bool) (p t u v : ℕ) (h : Head) → Fair (Enlists u v) (enlist m hs a p t u v h)
 unfolding enlist
-fair-enlist m hs a p t v h =
-    fair-test (Enlists t v) (not (hasState a h)) wrongState _ (omega arith) (omega arith)
-    (λ z. fair-listed (isValid hs t) (seek (isEmpty m) (slots (h .at))) p t v)
+fair-enlist m hs a p t u v h =
+    fair-test (Enlists u v) (not (a h)) wrongState _ (omega arith) (omega arith)
+    (λ z. fair-listed (isValid hs t) (openSlot m (slots (h .at))) p u v)
 
 fair-withdrawn : (sl : List ℕ) (p : ℕ) → Fair Withdraws (withdrawn sl p)
 fair-withdrawn [] p = (omega arith, omega arith, λ e. refl)
@@ -108,19 +108,19 @@ fair n m (Reserve size) =
     fair-settled (Reserves n m size) n m _
     (λ s u. fair-test (Reserves n m size) (eqb size 0) sizeZero _ (omega arith) (omega arith)
     (λ z. fair-placed n m size s u (eqb-false size 0 z) (seek (fits (needOf size)) (walk n m)) refl))
-fair n m (Onactive o t v) = fair-asked (Enlists t v) n m o _ (λ h e. fair-enlist m (walk n m) RESERVED o t v h)
-fair n m (Onfree o t v) = fair-asked (Enlists t v) n m o _ (λ h e. fair-enlist m (walk n m) ACTIVE o t v h)
+fair n m (Onactive o t v) = fair-asked (Enlists t v) n m o _ (λ h e. fair-enlist m (walk n m) (hasState RESERVED) o t t v h)
+fair n m (Onfree o t v) = fair-asked (Enlists (withMark t) v) n m o _ (λ h e. fair-enlist m (walk n m) isWaiting o t (withMark t) v h)
 fair n m (Withdraw o) =
     fair-asked Withdraws n m o _
-    (λ h e. fair-test Withdraws (not (isWaiting h)) wrongState _ (omega arith) (omega arith) (λ z. fair-withdrawn (usedSlots m (h .at)) o))
+    (λ h e. fair-test Withdraws (not (isWaiting h)) wrongState _ (omega arith) (omega arith) (λ z. fair-withdrawn (slotsBy used m (h .at)) o))
 fair n m (Activate o) =
     fair-asked (Grants n m (Activate o)) n m o _
     (λ h e. fair-test (Grants n m (Activate o)) (not (hasState RESERVED h)) wrongState _ (omega arith) (omega arith)
-    (λ z. fair-test (Grants n m (Activate o)) (not (allValid m (walk n m) h)) badTarget _ (omega arith) (omega arith) (λ v. (h, e, refl))))
+    (λ z. fair-test (Grants n m (Activate o)) (not (allValid unmarked m (walk n m) h)) badTarget _ (omega arith) (omega arith) (λ v. (h, e, not-false _ z, refl))))
 fair n m (Free o) =
     fair-asked (Grants n m (Free o)) n m o _
     (λ h e. fair-test (Grants n m (Free o)) (not (isWaiting h)) wrongState _ (omega arith) (omega arith)
-    (λ z. fair-test (Grants n m (Free o)) (not (mayDrop m (walk n m) h)) badTarget _ (omega arith) (omega arith) (λ v. (h, e, refl))))
+    (λ z. fair-test (Grants n m (Free o)) (not (allValid (freed h) m (walk n m) h)) badTarget _ (omega arith) (omega arith) (λ v. (h, e, refl))))
 fair n m Check = fair-sound (Grants n m Check) n m _ (λ s. refl)
 fair n m Recover = fair-sound (Grants n m Recover) n m _ (λ s. refl)
 

@@ -2,20 +2,22 @@
 -- agree on so much. It reads the targets of a list, and the values of its used entries. By the definitions, one law each. Assumes nothing.
 use Prim.Native.Nat.{ℕ, zero, suc, _+_, _*_, _≤_}
 use mathlib.Core.Path.{_≡_, refl, ap, ap₂, _∙_}
-use mathlib.Core.Bool.{Bool, true, false, cond, not, _&&_, _||_}
+use mathlib.Core.Bool.{Bool, true, false, cond, not, _&&_}
 use mathlib.Core.Option.{Option}
 use mathlib.Core.List.{List, [], _∷_, _++_, map}
 use native.Mathlib.Omega.{arith}
 use lib.Dec.{eqb}
-use Rattle.rules.specs.Lists.{seek, those, any, all, Each}
+use Rattle.rules.specs.Lists.{those, any, all, Each}
 use Rattle.rules.specs.Words.{Mem, Store, wordBytes, allZero}
 use Rattle.rules.specs.Pages.{headerAt, signatureHighAt, totalAt, paddingAt, paddingWords, clumpsAt, isPool}
-use Rattle.rules.specs.Clumps.{Head, FREE, RESERVED, ACTIVATING, ACTIVE, FREEING, hasState, headerBytes, isWaiting, isEmpty, isUsed, slots, valueAt, usedSlots, targetAt, entry}
-use Rattle.rules.specs.Sound.{inPlace, gapped, listBad, isValid, allValid}
+use Rattle.rules.specs.Clumps.{Head, FREE, RESERVED, ACTIVATING, ACTIVE, hasState, headerBytes, isWaiting, isUsed, slots, valueAt, Choice, used, marked, unmarked, targetOf, nothing, freed, slotsBy, targetAt, entry}
+use Rattle.rules.specs.Sound.{inPlace, listBad, isValid, allValid}
 use Rattle.rules.specs.Answers.{Verdict, granted, test, wrongState, badTarget}
 use Rattle.rules.specs.Stores.{setState, freeAfter, freeBefore, joinBoth, emptying, finishActivating, finishFreeing, activateStores, dropStores, freeStores}
-use Rattle.rules.specs.Requests.{listed, enlist, withdrawn, withdraw, activate, free}
-use Rattle.laws.specs.Searches.{those-map, seek-same, any-same, all-same, each-map}
+use Rattle.rules.specs.Requests.{openSlot, listed, enlist, withdrawn, withdraw, activate, free}
+use Rattle.rules.specs.Reading.{listedAt}
+use Rattle.laws.specs.Searches.{those-map, any-same, all-same, each-map}
+use Rattle.laws.specs.Choices.{Chooses, chosen-used, chooses-unmarked, chooses-marked, chooses-freed}
 
 -- x agrees with m on the header of the clump at a, and on the headers of hs
 abbrev pub AgreeAt : Mem → Mem → ℕ → Type 0
@@ -47,42 +49,57 @@ pub map-same : {A B : Type 0} (f g : A → B) (xs : List A) → Each (λ x. f x 
 map-same f g [] e = refl
 map-same f g (x ∷ xs) e = ap₂ _∷_ (e .0) (map-same f g xs (e .1))
 
-those-same : (m x : Mem) (sl : List ℕ) → SameSlots m x sl → those (isUsed x) sl ≡ those (isUsed m) sl
+-- what depends on the stored target alone, over entries with the same targets: a choice, a search for one that is marked, the entry that
+-- a new one goes to
+abbrev SameTargets : Mem → Mem → List ℕ → Type 0
+SameTargets m x sl = Each (λ s. x s ≡ m s) sl
+
+pub chosen-same : (c : Choice) (m x : Mem) (sl : List ℕ) → SameTargets m x sl → those (λ s. c (x s)) sl ≡ those (λ s. c (m s)) sl
 unfolding those
-those-same m x [] e = refl
-those-same m x (s ∷ sl) e =
-    ap (λ (l : List ℕ). cond (isUsed x s) (s ∷ l) l) (those-same m x sl (e .1))
-    ∙ ap (λ (w : ℕ). cond (not (eqb w 0)) (s ∷ those (isUsed m) sl) (those (isUsed m) sl)) (e .0 .0)
+chosen-same c m x [] e = refl
+chosen-same c m x (s ∷ sl) e = let f = e .0 in rw (f, chosen-same c m x sl (e .1))
 
--- the used ones among them
-module _ (m x : Mem) (sl : List ℕ) (g : SameSlots m x sl) where
-  pub used-same : those (isUsed x) sl ≡ those (isUsed m) sl
-  used-same = those-same m x sl g
+any-chosen-same : (c : Choice) (m x : Mem) (sl : List ℕ) → SameTargets m x sl → any (λ s. c (x s)) sl ≡ any (λ s. c (m s)) sl
+any-chosen-same c m x sl e = any-same (λ s. c (x s)) (λ s. c (m s)) sl (each-map (λ s. x s ≡ m s) (λ s. c (x s) ≡ c (m s)) sl (λ s f. ap c f) e)
 
-  pub entries-same : map (entry x) (those (isUsed x) sl) ≡ map (entry m) (those (isUsed m) sl)
-  entries-same =
-      ap (map (entry x)) used-same
-      ∙ map-same (entry x) (entry m) (those (isUsed m) sl)
-      (those-map (SameSlot m x) (λ s. entry x s ≡ entry m s) (isUsed m) sl (λ s u e i. record { to = e .0 i; word = e .1 u i }) g)
+open-same : (m x : Mem) (sl : List ℕ) → SameTargets m x sl → openSlot x sl ≡ openSlot m sl
+unfolding openSlot
+open-same m x [] e = refl
+open-same m x (s ∷ sl) e = rw (any-chosen-same used m x (s ∷ sl) e, open-same m x sl (e .1))
 
-  targets-same : Each (λ s. x s ≡ m s) sl
+-- the chosen ones among them, with their values
+module _ (c : Choice) (z : Chooses c) (m x : Mem) (sl : List ℕ) (g : SameSlots m x sl) where
+  pub targets-same : SameTargets m x sl
   targets-same = each-map (SameSlot m x) (λ s. x s ≡ m s) sl (λ s e. e .0) g
 
-  empty-same : seek (isEmpty x) sl ≡ seek (isEmpty m) sl
-  empty-same =
-      seek-same (isEmpty x) (isEmpty m) sl
-      (each-map (λ s. x s ≡ m s) (λ s. isEmpty x s ≡ isEmpty m s) sl (λ s e. ap (λ (w : ℕ). eqb w 0) e) targets-same)
+  -- whatever is made of where an entry stands, its stored target and its value
+  made-same : {A : Type 0} (f : ℕ → ℕ → ℕ → A) → map (λ s. f s (x s) (x (valueAt s))) (those (λ s. c (x s)) sl) ≡ map (λ s. f s (m s) (m (valueAt s))) (those (λ s. c (m s)) sl)
+  made-same f =
+      ap (map (λ s. f s (x s) (x (valueAt s)))) (chosen-same c m x sl targets-same)
+      ∙ map-same (λ s. f s (x s) (x (valueAt s))) (λ s. f s (m s) (m (valueAt s))) (those (λ s. c (m s)) sl)
+      (those-map (SameSlot m x) (λ s. f s (x s) (x (valueAt s)) ≡ f s (m s) (m (valueAt s))) (λ s. c (m s)) sl
+      (λ s u e. ap₂ (f s) (e .0) (e .1 (chosen-used c (m s) z u))) g)
 
-  -- a test of each used target
-  used-test : (p : ℕ → Bool) → Each (λ s. p (x s) ≡ p (m s)) (those (isUsed m) sl)
-  used-test p = those-map (λ s. x s ≡ m s) (λ s. p (x s) ≡ p (m s)) (isUsed m) sl (λ s u e. ap p e) targets-same
+  pub entries-same : map (entry x) (those (λ s. c (x s)) sl) ≡ map (entry m) (those (λ s. c (m s)) sl)
+  entries-same = made-same (λ s t v. record { to = targetOf t; word = v })
 
-pub gapped-same : (m x : Mem) (sl : List ℕ) → Each (λ s. x s ≡ m s) sl → gapped x sl ≡ gapped m sl
-unfolding gapped
-gapped-same m x [] e = refl
-gapped-same m x (s ∷ sl) e =
-    let used = each-map (λ r. x r ≡ m r) (λ r. isUsed x r ≡ isUsed m r) sl (λ r f. ap (λ (w : ℕ). not (eqb w 0)) f) (e .1) in
-    ap₂ _||_ (ap₂ _&&_ (ap (λ (w : ℕ). eqb w 0) (e .0)) (any-same (isUsed x) (isUsed m) sl used)) (gapped-same m x sl (e .1))
+  pub listing-same : map (listedAt x) (those (λ s. c (x s)) sl) ≡ map (listedAt m) (those (λ s. c (m s)) sl)
+  listing-same = made-same (λ s t v. record { place = s; mark = marked t; assigns = record { to = targetOf t; word = v } })
+
+-- a test of each chosen target
+module _ (c : Choice) (m x : Mem) (sl : List ℕ) (e : SameTargets m x sl) (p : ℕ → Bool) where
+  tested : Each (λ s. p (targetAt x s) ≡ p (targetAt m s)) (those (λ s. c (m s)) sl)
+  tested = those-map (λ s. x s ≡ m s) (λ s. p (targetAt x s) ≡ p (targetAt m s)) (λ s. c (m s)) sl (λ s u f. ap (λ (w : ℕ). p (targetOf w)) f) e
+
+  any-test : any (λ s. p (targetAt x s)) (those (λ s. c (x s)) sl) ≡ any (λ s. p (targetAt m s)) (those (λ s. c (m s)) sl)
+  any-test =
+      ap (any (λ s. p (targetAt x s))) (chosen-same c m x sl e)
+      ∙ any-same (λ s. p (targetAt x s)) (λ s. p (targetAt m s)) (those (λ s. c (m s)) sl) tested
+
+  all-test : all (λ s. p (targetAt x s)) (those (λ s. c (x s)) sl) ≡ all (λ s. p (targetAt m s)) (those (λ s. c (m s)) sl)
+  all-test =
+      ap (all (λ s. p (targetAt x s))) (chosen-same c m x sl e)
+      ∙ all-same (λ s. p (targetAt x s)) (λ s. p (targetAt m s)) (those (λ s. c (m s)) sl) tested
 
 -- what stands behind a test need only be the same where the test lets it pass
 behind : {A B : Type 0} (f : Bool → A → B) (b : Bool) (c d : A) → ((y z : A) → f false y ≡ f false z) → (b ≡ true → c ≡ d) → f b c ≡ f b d
@@ -92,48 +109,69 @@ behind f false c d z e = z c d
 allowed-same : (b : Bool) (v w : Verdict) → (b ≡ true → v ≡ w) → test (not b) wrongState v ≡ test (not b) wrongState w
 allowed-same b v w e = behind (λ c. test (not c) wrongState) b v w (λ y z. refl) e
 
--- a list that does not wait is not judged
-pub list-same : (n : ℕ) (m x : Mem) (h : Head) → (isWaiting h ≡ true → SameSlots m x (slots (h .at))) → listBad n x h ≡ listBad n m h
-unfolding listBad
-list-same n m x h g =
-    behind _&&_ (isWaiting h) _ _ (λ y z. refl)
-    (λ w. ap₂ _||_ (gapped-same m x (slots (h .at)) (targets-same m x (slots (h .at)) (g w)))
-    (ap (any (λ s. not (inPlace n (targetAt x s)))) (used-same m x (slots (h .at)) (g w))
-    ∙ any-same (λ s. not (inPlace n (targetAt x s))) (λ s. not (inPlace n (targetAt m s))) (usedSlots m (h .at))
-    (used-test m x (slots (h .at)) (g w) (λ t. not (inPlace n t)))))
+-- a list of which no entry waits is not judged
+pub list-same :
+    (n : ℕ) (m x : Mem) (h : Head)
+    → (isWaiting h ≡ true → SameSlots m x (slots (h .at)))
+    → (hasState ACTIVATING h ≡ true → SameSlots m x (slots (h .at)))
+    → listBad n x h ≡ listBad n m h
+unfolding listBad those any
+list-same n m x h f g = go (isWaiting h) refl (hasState ACTIVATING h) refl
+  where
+    bad : Choice → Mem → Bool
+    bad c y = any (λ s. not (inPlace n (targetAt y s))) (slotsBy c y (h .at))
+
+    judged : (c : Choice) → Chooses c → SameSlots m x (slots (h .at)) → bad c x ≡ bad c m
+    judged c z e = any-test c m x (slots (h .at)) (targets-same c z m x (slots (h .at)) e) (λ t. not (inPlace n t))
+
+    go : (a : Bool) → isWaiting h ≡ a → (b : Bool) → hasState ACTIVATING h ≡ b → bad (cond a used (cond b marked nothing)) x ≡ bad (cond a used (cond b marked nothing)) m
+    go true p b q = judged used refl (f p)
+    go false p true q = judged marked chooses-marked (g q)
+    go false p false q = refl
 
 module _ (n : ℕ) (m x : Mem) (hs : List Head) where
-  pub valid-same : (h : Head) → SameSlots m x (slots (h .at)) → allValid x hs h ≡ allValid m hs h
+  pub valid-same : (c : Choice) → Chooses c → (h : Head) → SameSlots m x (slots (h .at)) → allValid c x hs h ≡ allValid c m hs h
   unfolding allValid
-  valid-same h g =
-      ap (all (λ s. isValid hs (targetAt x s))) (used-same m x (slots (h .at)) g)
-      ∙ all-same (λ s. isValid hs (targetAt x s)) (λ s. isValid hs (targetAt m s)) (usedSlots m (h .at))
-      (used-test m x (slots (h .at)) g (isValid hs))
+  valid-same c z h g = all-test c m x (slots (h .at)) (targets-same c z m x (slots (h .at)) g) (isValid hs)
 
   -- the stores of a clump's list
   pub finish-activating-same : (h : Head) → SameSlots m x (slots (h .at)) → finishActivating x h ≡ finishActivating m h
   unfolding finishActivating
   finish-activating-same h g =
       ap₂ (λ (st : List Store) (sl : List ℕ). st ++ (emptying sl ++ (setState h ACTIVE ∷ [])))
-      (entries-same m x (slots (h .at)) g) (used-same m x (slots (h .at)) g)
+      (entries-same unmarked chooses-unmarked m x (slots (h .at)) g)
+      (chosen-same unmarked m x (slots (h .at)) (targets-same unmarked chooses-unmarked m x (slots (h .at)) g))
 
-  pub finish-freeing-same : (h : Head) → SameSlots m x (slots (h .at)) → finishFreeing x h ≡ finishFreeing m h
+  pub finish-freeing-same : (c : Choice) → Chooses c → (h : Head) → SameSlots m x (slots (h .at)) → finishFreeing c x h ≡ finishFreeing c m h
   unfolding finishFreeing
-  finish-freeing-same h g = ap (λ (st : List Store). st ++ (setState h FREE ∷ [])) (entries-same m x (slots (h .at)) g)
+  finish-freeing-same c z h g = ap (λ (st : List Store). st ++ (setState h FREE ∷ [])) (entries-same c z m x (slots (h .at)) g)
+
+  drop-same : (h : Head) → SameSlots m x (slots (h .at)) → dropStores x h ≡ dropStores m h
+  unfolding dropStores
+  drop-same h g =
+      let t = targets-same used refl m x (slots (h .at)) g in
+      rw (
+        finish-freeing-same used refl h g,
+        finish-freeing-same marked chooses-marked h g,
+        any-chosen-same marked m x (slots (h .at)) t,
+        chosen-same unmarked m x (slots (h .at)) t,
+      )
 
   -- the verdicts on a clump: in a state that is not allowed its list is not read
   pub enlist-same :
-      (allowed o t v : ℕ) (h : Head)
-      → (hasState allowed h ≡ true → SameSlots m x (slots (h .at)))
-      → enlist x hs allowed o t v h ≡ enlist m hs allowed o t v h
+      (allowed : Head → Bool) (o t u v : ℕ) (h : Head)
+      → (allowed h ≡ true → SameSlots m x (slots (h .at)))
+      → enlist x hs allowed o t u v h ≡ enlist m hs allowed o t u v h
   unfolding enlist
-  enlist-same allowed o t v h g =
-      allowed-same (hasState allowed h) _ _
-      (λ w. ap (λ (e : Option ℕ). listed (isValid hs t) e o t v) (empty-same m x (slots (h .at)) (g w)))
+  enlist-same allowed o t u v h g =
+      allowed-same (allowed h) _ _
+      (λ w. ap (λ (e : Option ℕ). listed (isValid hs t) e o u v) (open-same m x (slots (h .at)) (targets-same used refl m x (slots (h .at)) (g w))))
 
   pub withdraw-same : (o : ℕ) (h : Head) → (isWaiting h ≡ true → SameSlots m x (slots (h .at))) → withdraw x o h ≡ withdraw m o h
   unfolding withdraw
-  withdraw-same o h g = allowed-same (isWaiting h) _ _ (λ w. ap (λ (sl : List ℕ). withdrawn sl o) (used-same m x (slots (h .at)) (g w)))
+  withdraw-same o h g =
+      allowed-same (isWaiting h) _ _
+      (λ w. ap (λ (sl : List ℕ). withdrawn sl o) (chosen-same used m x (slots (h .at)) (targets-same used refl m x (slots (h .at)) (g w))))
 
   pub activate-same :
       (o : ℕ) (h : Head)
@@ -143,17 +181,14 @@ module _ (n : ℕ) (m x : Mem) (hs : List Head) where
   activate-same o h g =
       allowed-same (hasState RESERVED h) _ _
       (λ w. ap₂ (λ (b : Bool) (st : List Store). test (not b) badTarget (granted o (setState h ACTIVATING ∷ st)))
-      (valid-same h (g w)) (finish-activating-same h (g w)))
+      (valid-same unmarked chooses-unmarked h (g w)) (finish-activating-same h (g w)))
 
   pub free-same : (o : ℕ) (h : Head) → (isWaiting h ≡ true → SameSlots m x (slots (h .at))) → free x hs o h ≡ free m hs o h
-  unfolding free freeStores dropStores
+  unfolding free freeStores
   free-same o h g =
       allowed-same (isWaiting h) _ _
-      (λ w. ap₂ (λ (b : Bool) (st : List Store).
-      test (not (cond (hasState ACTIVE h) b true)) badTarget
-      (granted o
-      (cond (hasState ACTIVE h) (setState h FREEING ∷ st) (setState h FREE ∷ []) ++ joinBoth (freeAfter hs h) (freeBefore hs h) h)))
-      (valid-same h (g w)) (finish-freeing-same h (g w)))
+      (λ w. ap₂ (λ (b : Bool) (st : List Store). test (not b) badTarget (granted o (st ++ joinBoth (freeAfter hs h) (freeBefore hs h) h)))
+      (valid-same (freed h) (chooses-freed h) h (g w)) (drop-same h (g w)))
 
 zero-same : (k i : ℕ) (m x : Mem) → AgreePage m x → headerAt ≤ i → i + wordBytes * k ≤ clumpsAt → allZero x i k ≡ allZero m i k
 unfolding allZero

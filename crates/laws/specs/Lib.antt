@@ -6,6 +6,7 @@ pub mod Walking
 pub mod Neighbours
 pub mod Pools
 pub mod Totals
+pub mod Choices
 pub mod Headers
 pub mod Verdicts
 pub mod Independence
@@ -27,4 +28,5 @@ pub mod Named
 pub mod Spare
 pub mod Counting
 pub mod Flushing
+pub mod AsBefore
 pub mod Sampled

@@ -10,7 +10,7 @@ use lib.Dec.{eqb}
 use Rattle.rules.specs.Lists.{seek, those, Each}
 use Rattle.rules.specs.Words.{Mem, store, upd, after}
 use Rattle.rules.specs.Pages.{clumpsAt}
-use Rattle.rules.specs.Clumps.{Head, Tiles, stateAt, hasState, isPending, isUsed, slots, usedSlots, entry, entries, FREE, RESERVED, ACTIVATING, ACTIVE, FREEING}
+use Rattle.rules.specs.Clumps.{Head, Tiles, stateAt, hasState, isPending, slots, Choice, used, unmarked, due, slotsBy, targetAt, entry, entriesBy, FREE, RESERVED, ACTIVATING, ACTIVE, FREEING}
 use Rattle.rules.specs.Sound.{faultAt, second, secondFault, isValid, allValid, targetFault}
 use Rattle.rules.specs.Stores.{setState, emptying, finishActivating, finishFreeing, finishing, releasing, released}
 use Rattle.word.specs.Memory.{upd-same, upd-other, after-append}
@@ -80,41 +80,43 @@ unfolding secondFault those
 others-idle p h q e f g = nil-those isPending q (second-none h (those isPending q) (rw (those-append isPending p (h ∷ q), those-nil isPending p f, g) at e))
 
 -- the targets that are carried out miss the headers
-pub targets-valid : (m : Mem) (hs : List Head) (h : Head) → seek isPending hs ≡ some h → targetFault m hs ≡ none → allValid m hs h ≡ true
+pub targets-valid : (m : Mem) (hs : List Head) (h : Head) → seek isPending hs ≡ some h → targetFault m hs ≡ none → allValid (due h) m hs h ≡ true
 unfolding targetFault
-targets-valid m hs h e f = go (allValid m hs h) refl (rw e at f)
+targets-valid m hs h e f = go (allValid (due h) m hs h) refl (rw e at f)
   where
-    go : (t : Bool) → allValid m hs h ≡ t → cond t none (some (faultAt 5 h)) ≡ none → allValid m hs h ≡ true
+    go : (t : Bool) → allValid (due h) m hs h ≡ t → cond t none (some (faultAt 5 h)) ≡ none → allValid (due h) m hs h ≡ true
     go true q g = q
     go false q g = some-none refl g
 
-entries-clear : (n : ℕ) (m : Mem) (hs : List Head) (sl : List ℕ) → Tiles clumpsAt hs n → Each (λ s. isValid hs (m s) ≡ true) sl → Each (λ s. Clear (s .to) hs) (map (entry m) sl)
+entries-clear : (n : ℕ) (m : Mem) (hs : List Head) (sl : List ℕ) → Tiles clumpsAt hs n → Each (λ s. isValid hs (targetAt m s) ≡ true) sl → Each (λ s. Clear (s .to) hs) (map (entry m) sl)
 entries-clear n m hs sl t e =
-    map-each (λ s. Clear (s .to) hs) (entry m) sl (each-map (λ s. isValid hs (m s) ≡ true) (λ s. Clear (m s) hs) sl (λ s v. valid-clear n (m s) hs t v) e)
+    map-each (λ s. Clear (s .to) hs) (entry m) sl (each-map (λ s. isValid hs (targetAt m s) ≡ true) (λ s. Clear (targetAt m s) hs) sl (λ s v. valid-clear n (targetAt m s) hs t v) e)
 
-emptying-clear : (m : Mem) (a b : ℕ) (p : List Head) (h : Head) (q : List Head) (sl : List ℕ) → Tiles a (p ++ (h ∷ q)) b → Each (λ s. (h .at + 16 ≤ s) × (s < h .at + h .nbytes)) sl → Each (λ s. Clear (s .to) (p ++ (h ∷ q))) (emptying (those (isUsed m) sl))
-emptying-clear m a b p h q sl t e =
-    map-each (λ s. Clear (s .to) (p ++ (h ∷ q))) (λ s. store s 0) (those (isUsed m) sl)
-    (those-each (λ s. Clear s (p ++ (h ∷ q))) (isUsed m) sl
+emptying-clear : (c : Choice) (m : Mem) (a b : ℕ) (p : List Head) (h : Head) (q : List Head) (sl : List ℕ) → Tiles a (p ++ (h ∷ q)) b → Each (λ s. (h .at + 16 ≤ s) × (s < h .at + h .nbytes)) sl → Each (λ s. Clear (s .to) (p ++ (h ∷ q))) (emptying (those (λ s. c (m s)) sl))
+emptying-clear c m a b p h q sl t e =
+    map-each (λ s. Clear (s .to) (p ++ (h ∷ q))) (λ s. store s 0) (those (λ s. c (m s)) sl)
+    (those-each (λ s. Clear s (p ++ (h ∷ q))) (λ s. c (m s)) sl
     (each-map (λ s. (h .at + 16 ≤ s) × (s < h .at + h .nbytes)) (λ s. Clear s (p ++ (h ∷ q))) sl (λ s f. clear-header a b s p h q t (f .0) (f .1)) e))
 
 -- the headers after the unfinished clump is finished
-module _ (n : ℕ) (m : Mem) (p : List Head) (h : Head) (q : List Head) (t : Tiles clumpsAt (p ++ (h ∷ q)) n) (r : Reads m (p ++ (h ∷ q))) (v : allValid m (p ++ (h ∷ q)) h ≡ true) where
-  assigned : Reads (after m (entries m (h .at))) (p ++ (h ∷ q))
+module _ (n : ℕ) (m : Mem) (p : List Head) (h : Head) (q : List Head) (t : Tiles clumpsAt (p ++ (h ∷ q)) n) (r : Reads m (p ++ (h ∷ q))) where
+  assigned : (c : Choice) → allValid c m (p ++ (h ∷ q)) h ≡ true → Reads (after m (entriesBy c m (h .at))) (p ++ (h ∷ q))
   unfolding allValid
-  assigned = reads-after m (entries m (h .at)) (p ++ (h ∷ q)) (entries-clear n m (p ++ (h ∷ q)) (usedSlots m (h .at)) t (all-each (λ s. isValid (p ++ (h ∷ q)) (m s)) (usedSlots m (h .at)) v)) r
+  assigned c v = reads-after m (entriesBy c m (h .at)) (p ++ (h ∷ q)) (entries-clear n m (p ++ (h ∷ q)) (slotsBy c m (h .at)) t (all-each (λ s. isValid (p ++ (h ∷ q)) (targetAt m s)) (slotsBy c m (h .at)) v)) r
 
-  pub activated : 64 ≤ h .nbytes → Reads (after m (finishActivating m h)) (p ++ (withState h ACTIVE ∷ q))
+  pub activated : allValid unmarked m (p ++ (h ∷ q)) h ≡ true → 64 ≤ h .nbytes → Reads (after m (finishActivating m h)) (p ++ (withState h ACTIVE ∷ q))
   unfolding finishActivating after
-  activated l =
-      rw (after-append m (entries m (h .at)) (emptying (usedSlots m (h .at)) ++ (setState h ACTIVE ∷ [])), after-append (after m (entries m (h .at))) (emptying (usedSlots m (h .at))) (setState h ACTIVE ∷ []))
+  activated v l =
+      let st = entriesBy unmarked m (h .at) in
+      let sl = slotsBy unmarked m (h .at) in
+      rw (after-append m st (emptying sl ++ (setState h ACTIVE ∷ [])), after-append (after m st) (emptying sl) (setState h ACTIVE ∷ []))
       (reads-state _ ACTIVE clumpsAt n p h q t
-      (reads-after _ (emptying (usedSlots m (h .at))) (p ++ (h ∷ q))
-      (emptying-clear m clumpsAt n p h q (slots (h .at)) t ((omega arith, omega arith), ((omega arith, omega arith), ((omega arith, omega arith), tt)))) assigned))
+      (reads-after _ (emptying sl) (p ++ (h ∷ q))
+      (emptying-clear unmarked m clumpsAt n p h q (slots (h .at)) t ((omega arith, omega arith), ((omega arith, omega arith), ((omega arith, omega arith), tt)))) (assigned unmarked v)))
 
-  pub dropped : Reads (after m (finishFreeing m h)) (p ++ (withState h FREE ∷ q))
+  pub dropped : (c : Choice) → allValid c m (p ++ (h ∷ q)) h ≡ true → Reads (after m (finishFreeing c m h)) (p ++ (withState h FREE ∷ q))
   unfolding finishFreeing after
-  dropped = rw (after-append m (entries m (h .at)) (setState h FREE ∷ [])) (reads-state _ FREE clumpsAt n p h q t assigned)
+  dropped c v = rw (after-append m (entriesBy c m (h .at)) (setState h FREE ∷ [])) (reads-state _ FREE clumpsAt n p h q t (assigned c v))
 
 pub finish-reads : (n : ℕ) (m : Mem) (hs : List Head) → Tiles clumpsAt hs n → Reads m hs → secondFault hs ≡ none → targetFault m hs ≡ none → Reads (after m (finishing m (seek isPending hs))) (map settle hs)
 unfolding after
@@ -127,25 +129,25 @@ finish-reads n m hs t r s f = go (seek isPending hs) refl
         let w = x .whole in
         let t′ = subst (λ (ks : List Head). Tiles clumpsAt ks n) w t in
         let r′ = subst (Reads m) w r in
-        let v′ = subst (λ (ks : List Head). allValid m ks h ≡ true) w (targets-valid m hs h e f) in
+        let v′ = subst (λ (ks : List Head). allValid (due h) m ks h ≡ true) w (targets-valid m hs h e f) in
         let i = others-idle (x .lower) h (x .higher) (subst (λ (ks : List Head). secondFault ks ≡ none) w s) (x .before) (x .passes) in
         let l = tiles-split clumpsAt n (x .lower) (h ∷ x .higher) t′ .2 .0 .least in
         subst (λ (ks : List Head). Reads (after m (finishing m (some h))) (map settle ks)) (sym w)
-        (rw (map-split (x .lower) h (x .higher) (x .before) i) (pick x t′ r′ v′ l (hasState ACTIVATING h) refl))
+        (rw (map-split (x .lower) h (x .higher) (x .before) i) (pick x t′ r′ l (hasState ACTIVATING h) refl v′))
       where
         pick :
             (x : Split isPending hs h)
             → (t′ : Tiles clumpsAt (x .lower ++ (h ∷ x .higher)) n)
             → Reads m (x .lower ++ (h ∷ x .higher))
-            → allValid m (x .lower ++ (h ∷ x .higher)) h ≡ true
             → 128 ≤ h .nbytes
             → (b : Bool)
             → hasState ACTIVATING h ≡ b
-            → Reads (after m (cond b (finishActivating m h) (finishFreeing m h))) (x .lower ++ (withState h (cond b ACTIVE (cond (hasState FREEING h) FREE (h .state))) ∷ x .higher))
-        pick x t′ r′ v′ l true q = activated n m (x .lower) h (x .higher) t′ r′ v′ (omega arith)
-        pick x t′ r′ v′ l false q =
+            → allValid (cond b unmarked used) m (x .lower ++ (h ∷ x .higher)) h ≡ true
+            → Reads (after m (cond b (finishActivating m h) (finishFreeing used m h))) (x .lower ++ (withState h (cond b ACTIVE (cond (hasState FREEING h) FREE (h .state))) ∷ x .higher))
+        pick x t′ r′ l true q v′ = activated n m (x .lower) h (x .higher) t′ r′ v′ (omega arith)
+        pick x t′ r′ l false q v′ =
             let y : hasState FREEING h ≡ true = rw q at (x .passes) in
-            rw y (dropped n m (x .lower) h (x .higher) t′ r′ v′)
+            rw y (dropped n m (x .lower) h (x .higher) t′ r′ used v′)
 
 -- the headers after RESERVED clumps are released, upward
 pub releasing-cons : (h : Head) (hs : List Head) → releasing (h ∷ hs) ≡ cond (hasState RESERVED h) (setState h FREE ∷ []) [] ++ releasing hs

@@ -13,7 +13,7 @@ use borrow.Author.Tests.{leb-false, ltb-false}
 use Rattle.rules.specs.declared.Request.{Request}
 use Rattle.rules.specs.Lists.{any, Each}
 use Rattle.rules.specs.Words.{Image, Mem, Store, put, carry, mem, wordBytes}
-use Rattle.rules.specs.Clumps.{Head, entries, isLive, walk}
+use Rattle.rules.specs.Clumps.{Head, entriesBy, isLive, walk}
 use Rattle.rules.specs.Answers.{storesOf}
 use Rattle.rules.specs.Requests.{Numbers, verdict, storesFor}
 use Rattle.rules.specs.Reading.{within, inPart}
@@ -67,7 +67,7 @@ misses :
 misses n i m q c p u =
     lands (Miss i) (Numbers q) n m (λ s. each-map (Off i) (Takes (Miss i) (Numbers q)) (walk n m) (takes-miss (Numbers q) i) (off n i (walk n m) (pool-tiles n m s) p)) q (λ z. z)
     (λ e r. differ e c)
-    (λ h s e v. named-miss i (entries m (h .at)) (subst (λ (st : List Store). any (λ x. within (x .to) (x .to + wordBytes) i) st ≡ false) e u))
+    (λ c h s e v. named-miss i (entriesBy c m (h .at)) (subst (λ (st : List Store). any (λ x. within (x .to) (x .to + wordBytes) i) st ≡ false) e u))
 
 pub only-named : OnlyNamed
 only-named img q fuse i c p u = carry-miss img (take fuse (storesFor img q)) i (each-take (Miss i) fuse (storesFor img q) (misses (length img) i (mem img) q c p u))

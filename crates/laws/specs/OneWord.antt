@@ -9,7 +9,7 @@ use lib.ListN.{length}
 use Rattle.rules.specs.declared.Request.{Request}
 use Rattle.rules.specs.Lists.{Each}
 use Rattle.rules.specs.Words.{Mem, Aligned, mem, wordValues}
-use Rattle.rules.specs.Clumps.{Head, usedSlots, valueAt, entry, entries, walk}
+use Rattle.rules.specs.Clumps.{Head, Choice, valueAt, targetAt, slotsBy, entry, entriesBy, walk}
 use Rattle.rules.specs.Sound.{isValid, allValid}
 use Rattle.rules.specs.Answers.{storesOf}
 use Rattle.rules.specs.Stores.{createStores}
@@ -34,13 +34,13 @@ takes-aligned k n h l =
     }
 
 -- so are the assignments of a list whose targets are valid
-entries-aligned : (n : ℕ) (m : Mem) → ((o : ℕ) → m o < wordValues) → Sound n m → (h : Head) → allValid m (walk n m) h ≡ true → Each (Aligned n) (entries m (h .at))
+entries-aligned : (n : ℕ) (m : Mem) → ((o : ℕ) → m o < wordValues) → Sound n m → (c : Choice) (h : Head) → allValid c m (walk n m) h ≡ true → Each (Aligned n) (entriesBy c m (h .at))
 unfolding allValid
-entries-aligned n m b s h v =
-    map-each (Aligned n) (entry m) (usedSlots m (h .at))
-    (each-map (λ o. isValid (walk n m) (m o) ≡ true) (λ o. Aligned n (entry m o)) (usedSlots m (h .at))
-    (λ o e. let x = valid-in n m (m o) (pool-tiles n m s) e in record { even = x .0; inside = x .1; small = b (valueAt o) })
-    (all-each (λ o. isValid (walk n m) (m o)) (usedSlots m (h .at)) v))
+entries-aligned n m b s c h v =
+    map-each (Aligned n) (entry m) (slotsBy c m (h .at))
+    (each-map (λ o. isValid (walk n m) (targetAt m o) ≡ true) (λ o. Aligned n (entry m o)) (slotsBy c m (h .at))
+    (λ o e. let x = valid-in n m (targetAt m o) (pool-tiles n m s) e in record { even = x .0; inside = x .1; small = b (valueAt o) })
+    (all-each (λ o. isValid (walk n m) (targetAt m o)) (slotsBy c m (h .at)) v))
 
 -- create
 pub create-aligned : (n : ℕ) → RightLength n → Each (Aligned n) (createStores n)
@@ -49,7 +49,7 @@ create-aligned n r = let l = r .least in create-each (Aligned n) n r (λ o w p e
 aligned : (n : ℕ) (m : Mem) (q : Request) → ((o : ℕ) → m o < wordValues) → Numbers q → Each (Aligned n) (storesOf (verdict n m q))
 aligned n m q b k =
     lands (Aligned n) (Numbers q) n m (λ s. each-map (Lies n) (Takes (Aligned n) (Numbers q)) (walk n m) (takes-aligned k n) (all-lie n m s)) q (λ z. z)
-    (λ c r. create-aligned n (right-length n r)) (λ h s e. entries-aligned n m b s h)
+    (λ c r. create-aligned n (right-length n r)) (λ c h s e. entries-aligned n m b s c h)
 
 pub one-word : OneWord
 one-word img q b k = aligned (length img) (mem img) q (λ o. mem-bound img o b) k

@@ -77,15 +77,6 @@ module _ {A : Type 0} where
   seek-at p [] x higher e f = seek-hit p x higher f
   seek-at p (y ∷ lower) x higher e f = seek-pass p y (lower ++ (x ∷ higher)) (e .0) ∙ seek-at p lower x higher (e .1) f
 
-  -- tests that agree on a list find the same
-  pub seek-same : (p q : A → Bool) (xs : List A) → Each (λ x. p x ≡ q x) xs → seek p xs ≡ seek q xs
-  seek-same p q [] e = seek-nil p ∙ sym (seek-nil q)
-  seek-same p q (x ∷ xs) e = go (q x) refl (seek-same p q xs (e .1))
-    where
-      go : (t : Bool) → q x ≡ t → seek p xs ≡ seek q xs → seek p (x ∷ xs) ≡ seek q (x ∷ xs)
-      go true f ih = seek-hit p x xs (e .0 ∙ f) ∙ sym (seek-hit q x xs f)
-      go false f ih = seek-pass p x xs (e .0 ∙ f) ∙ ih ∙ sym (seek-pass q x xs f)
-
   -- what holds of each element holds of the one that is found
   pub seek-each : (P : A → Type 0) (p : A → Bool) (xs : List A) (x : A) → seek p xs ≡ some x → Each P xs → P x
   seek-each P p [] x e f = some-none e (seek-nil p)
@@ -188,6 +179,22 @@ module _ {A : Type 0} where
 
   pub those-each : (P : A → Type 0) (p : A → Bool) (xs : List A) → Each P xs → Each P (those p xs)
   those-each P p xs f = those-map P P p xs (λ x e y. y) f
+
+  -- two tests that say the same
+  pub those-alike : (p q : A → Bool) (xs : List A) → Each (λ x. p x ≡ q x) xs → those p xs ≡ those q xs
+  unfolding those
+  those-alike p q [] e = refl
+  those-alike p q (x ∷ xs) e = let f = e .0 in rw (f, those-alike p q xs (e .1))
+
+  -- each passes the test
+  pub those-pass : (p : A → Bool) (xs : List A) → Each (λ x. p x ≡ true) (those p xs)
+  unfolding those
+  those-pass p [] = tt
+  those-pass p (x ∷ xs) = go (p x) refl (those-pass p xs)
+    where
+      go : (b : Bool) → p x ≡ b → Each (λ y. p y ≡ true) (those p xs) → Each (λ y. p y ≡ true) (cond b (x ∷ those p xs) (those p xs))
+      go true q f = (q, f)
+      go false q f = f
 
   pub those-few : (p : A → Bool) (xs : List A) → length (those p xs) ≤ length xs
   unfolding those

@@ -12,7 +12,7 @@ use Rattle.rules.specs.declared.Request.{Request}
 use Rattle.rules.specs.Lists.{Each}
 use Rattle.rules.specs.Words.{Mem, Store, mem, wordBytes}
 use Rattle.rules.specs.Pages.{clumpsAt, staticAt, staticEnd, headerAt}
-use Rattle.rules.specs.Clumps.{Head, endOf, usedSlots, entry, entries, walk}
+use Rattle.rules.specs.Clumps.{Head, endOf, Choice, targetAt, slotsBy, entry, entriesBy, walk}
 use Rattle.rules.specs.Sound.{isValid, allValid}
 use Rattle.rules.specs.Answers.{storesOf}
 use Rattle.rules.specs.Requests.{Numbers, verdict, storesFor}
@@ -34,13 +34,13 @@ Apart s = ((staticAt ≤ s .to) × (s .to + wordBytes ≤ staticEnd)) ⊎ (heade
 takes-apart : (N : Type 0) (h : Head) → clumpsAt ≤ h .at → Takes Apart N h
 takes-apart N h l = record { header = λ o w a b e f. inr (omega arith); whole = λ z o w a b e f. inr (omega arith) }
 
-entries-apart : (n : ℕ) (m : Mem) → Sound n m → (h : Head) → allValid m (walk n m) h ≡ true → Each Apart (entries m (h .at))
+entries-apart : (n : ℕ) (m : Mem) → Sound n m → (c : Choice) (h : Head) → allValid c m (walk n m) h ≡ true → Each Apart (entriesBy c m (h .at))
 unfolding allValid
-entries-apart n m s h v =
-    map-each Apart (entry m) (usedSlots m (h .at))
-    (each-map (λ o. isValid (walk n m) (m o) ≡ true) (λ o. Apart (entry m o)) (usedSlots m (h .at))
-    (λ o e. ⊎-elim (λ x. inl x) (λ x. inr (omega arith)) (valid-area n (m o) (walk n m) (pool-tiles n m s) e))
-    (all-each (λ o. isValid (walk n m) (m o)) (usedSlots m (h .at)) v))
+entries-apart n m s c h v =
+    map-each Apart (entry m) (slotsBy c m (h .at))
+    (each-map (λ o. isValid (walk n m) (targetAt m o) ≡ true) (λ o. Apart (entry m o)) (slotsBy c m (h .at))
+    (λ o e. ⊎-elim (λ x. inl x) (λ x. inr (omega arith)) (valid-area n (targetAt m o) (walk n m) (pool-tiles n m s) e))
+    (all-each (λ o. isValid (walk n m) (targetAt m o)) (slotsBy c m (h .at)) v))
 
 apart : (n : ℕ) (m : Mem) (q : Request) → Each Apart (storesOf (verdict n m q))
 apart n m q =
@@ -48,7 +48,7 @@ apart n m q =
     (λ s. each-map (λ h. (clumpsAt ≤ h .at) × (h .at < n) × (endOf h ≤ n)) (Takes Apart (Numbers q)) (walk n m) (λ h l. takes-apart (Numbers q) h (l .0)) (tiles-in clumpsAt n (walk n m) (pool-tiles n m s)))
     q (λ z. z)
     (λ c r. create-each Apart n (right-length n r) (λ o w p e u. ⊎-elim (λ x. inl x) (λ x. inr (x .0)) p))
-    (λ h s e. entries-apart n m s h)
+    (λ c h s e. entries-apart n m s c h)
 
 -- such a store misses the bytes of the two pages
 spare-miss : (i : ℕ) (s : Store) → inSparePage i ≡ true → Apart s → Miss i s

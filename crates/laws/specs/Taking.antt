@@ -7,11 +7,11 @@ use mathlib.Core.Option.{Option, some, none}
 use mathlib.Core.List.{List, [], _∷_, _++_}
 use native.Mathlib.Omega.{arith}
 use lib.Dec.{leb}
-use borrow.Author.Tests.{leb-true}
+use borrow.Author.Tests.{leb-true, not-false}
 use Rattle.rules.specs.Lists.{Each}
 use Rattle.rules.specs.Words.{Mem, Store, store, wordBytes, wordValues}
 use Rattle.rules.specs.Pages.{unit}
-use Rattle.rules.specs.Clumps.{Head, bodyOf, endOf, isFree, isUsed, slots, usedSlots, valueAt, entries, stateAt, FREE, RESERVED, ACTIVE, FREEING}
+use Rattle.rules.specs.Clumps.{Head, bodyOf, endOf, isFree, slots, valueAt, Choice, unmarked, slotsBy, entriesBy, stateAt, FREE, RESERVED, ACTIVE, FREEING}
 use Rattle.rules.specs.Answers.{storesOf, badTarget, bytesOf}
 use Rattle.rules.specs.Stores.{emptying, setState, leastRest, reserveStores, lastOf, finishActivating, finishFreeing, joinBefore, joinBoth, Run, joinRun, joining}
 use Rattle.rules.specs.Requests.{listed, withdrawn}
@@ -36,8 +36,8 @@ Slot h s = (h .at ≤ s) × (valueAt s + wordBytes ≤ bodyOf h) × (s % wordByt
 pub slots-in : (n : ℕ) (h : Head) → Lies n h → Each (Slot h) (slots (h .at))
 slots-in n h l = let e = l .even in ((omega arith, omega arith, omega arith), ((omega arith, omega arith, omega arith), ((omega arith, omega arith, omega arith), tt)))
 
-pub used-in : (n : ℕ) (m : Mem) (h : Head) → Lies n h → Each (Slot h) (usedSlots m (h .at))
-used-in n m h l = those-each (Slot h) (isUsed m) (slots (h .at)) (slots-in n h l)
+pub chosen-in : (n : ℕ) (c : Choice) (m : Mem) (h : Head) → Lies n h → Each (Slot h) (slotsBy c m (h .at))
+chosen-in n c m h l = those-each (Slot h) (λ s. c (m s)) (slots (h .at)) (slots-in n h l)
 
 module _ (P : Store → Type 0) (N : Type 0) (n : ℕ) where
   -- a clump in an image of n bytes
@@ -52,7 +52,7 @@ module _ (P : Store → Type 0) (N : Type 0) (n : ℕ) where
   size-lands h t w k = t .1 .header (h .at) w (omega arith) (omega arith) (omega (arith, t .0 .even)) (λ z. k)
 
   -- the targets of its list
-  emptying-lands : (h : Head) → In h → (sl : List ℕ) → Each (Slot h) sl → Each P (emptying sl)
+  pub emptying-lands : (h : Head) → In h → (sl : List ℕ) → Each (Slot h) sl → Each P (emptying sl)
   emptying-lands h t sl f =
       map-each P (λ s. store s 0) sl
       (each-map (Slot h) (λ s. P (store s 0)) sl (λ s e. t .1 .header s 0 (e .0) (let l = e .1 in omega arith) (e .2) (λ z. omega arith)) f)
@@ -89,31 +89,32 @@ module _ (P : Store → Type 0) (N : Type 0) (n : ℕ) where
       go false q = each-append P (emptying (slots (h .at))) (setState h RESERVED ∷ []) emptied (state-lands h t RESERVED (omega arith), tt)
 
   -- a new entry, and the last one emptied
-  pub listed-lands : (h : Head) → In h → (b : Bool) (o : Option ℕ) (p t v : ℕ) → ((s : ℕ) → o ≡ some s → Slot h s) → (N → t < wordValues) → (N → v < wordValues) → Each P (storesOf (listed b o p t v))
+  pub listed-lands : (h : Head) → In h → (b : Bool) (o : Option ℕ) (p t v : ℕ) → ((s : ℕ) → o ≡ some s → Slot h s) → (b ≡ true → N → t < wordValues) → (N → v < wordValues) → Each P (storesOf (listed b o p t v))
   listed-lands h i b none p t v f k l = tt
   listed-lands h i b (some s) p t v f k l =
       let x = f s refl in
       let a = x .0 in
       let c = x .1 in
       let e = x .2 in
-      behind-test (Each P) tt (not b) badTarget _ (λ z. (i .1 .header _ _ (omega arith) c (omega arith) l, (i .1 .header _ _ a (omega arith) e k, tt)))
+      behind-test (Each P) tt (not b) badTarget _ (λ z. (i .1 .header _ _ (omega arith) c (omega arith) l, (i .1 .header _ _ a (omega arith) e (k (not-false _ z)), tt)))
 
   pub withdrawn-lands : (h : Head) → In h → (sl : List ℕ) (p : ℕ) → Each (Slot h) sl → Each P (storesOf (withdrawn sl p))
   withdrawn-lands h t [] p f = tt
   withdrawn-lands h t (s ∷ sl) p f = emptying-lands h t (lastOf s sl ∷ []) (last-each (Slot h) s sl (f .0) (f .1), tt)
 
   -- a list carried out
-  module _ (m : Mem) (h : Head) (t : In h) (e : Each P (entries m (h .at))) where
-    pub activated-lands : Each P (finishActivating m h)
+  module _ (m : Mem) (h : Head) (t : In h) where
+    pub activated-lands : Each P (entriesBy unmarked m (h .at)) → Each P (finishActivating m h)
     unfolding finishActivating
-    activated-lands =
-        each-append P (entries m (h .at)) (emptying (usedSlots m (h .at)) ++ (setState h ACTIVE ∷ [])) e
-        (each-append P (emptying (usedSlots m (h .at))) (setState h ACTIVE ∷ []) (emptying-lands h t (usedSlots m (h .at)) (used-in n m h (t .0)))
+    activated-lands e =
+        let sl = slotsBy unmarked m (h .at) in
+        each-append P (entriesBy unmarked m (h .at)) (emptying sl ++ (setState h ACTIVE ∷ [])) e
+        (each-append P (emptying sl) (setState h ACTIVE ∷ []) (emptying-lands h t sl (chosen-in n unmarked m h (t .0)))
         (state-lands h t ACTIVE (omega arith), tt))
 
-    pub freed-lands : Each P (finishFreeing m h)
+    pub freed-lands : (c : Choice) → Each P (entriesBy c m (h .at)) → Each P (finishFreeing c m h)
     unfolding finishFreeing
-    freed-lands = each-append P (entries m (h .at)) (setState h FREE ∷ []) e (state-lands h t FREE (omega arith), tt)
+    freed-lands c e = each-append P (entriesBy c m (h .at)) (setState h FREE ∷ []) e (state-lands h t FREE (omega arith), tt)
 
   -- free's joins: the sums are those of clumps that touch
   before-lands : (o : Option Head) (a s : ℕ) → a + s ≤ n → ((k : Head) → o ≡ some k → In k × (endOf k ≡ a)) → Each P (joinBefore o s)

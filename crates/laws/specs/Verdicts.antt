@@ -14,13 +14,14 @@ use Rattle.rules.specs.declared.Request.the-variants.{Create, Reserve, Onactive
 use Rattle.rules.specs.Lists.{seek, Each}
 use Rattle.rules.specs.Words.{Mem, Store}
 use Rattle.rules.specs.Pages.{clumpsAt, isPool}
-use Rattle.rules.specs.Clumps.{Head, head, bodyOf, stateAt, leastClump, FREE, RESERVED, ACTIVATING, ACTIVE, hasState, isLive, isPending, slots, headsFrom, walk}
+use Rattle.rules.specs.Clumps.{Head, head, bodyOf, stateAt, leastClump, FREE, RESERVED, ACTIVATING, hasState, isLive, isWaiting, isPending, slots, used, due, withMark, headsFrom, walk}
 use Rattle.rules.specs.Sound.{Fault, faultAt, sizeBad, faultOf, clumpFault, invalid, targetFault, judge}
 use Rattle.rules.specs.Answers.{Verdict, granted, test, testFault, notPool, ifSound, ifSettled, totalsFor}
 use Rattle.rules.specs.Stores.{releasing, released, runs, joining, finishing, recoverStores}
 use Rattle.rules.specs.Requests.{reserve, finder, found, enlist, withdraw, activate, free, verdict}
 use Rattle.laws.specs.Searches.{some-none, seek-split, seek-each}
 use Rattle.laws.specs.Walks.{size-good, faultless, clump-hit, clump-pass, clump-end, no-faults}
+use Rattle.laws.specs.Choices.{chooses-due}
 use Rattle.laws.specs.Headers.{AgreePage, SameSlots, list-same, valid-same, finish-activating-same, finish-freeing-same, enlist-same, withdraw-same, activate-same, free-same, pool-same}
 
 -- what is read of a list: nothing, if the clump is FREE
@@ -69,7 +70,7 @@ module _ (n : ℕ) (m x : Mem) where
     where
       go : (b : Bool) → sizeBad n h ≡ b → faultOf n x h ≡ faultOf n m h
       go true e = rw e
-      go false e = rw (list-same n m x h (λ w. g (size-good n h e .0) (either-live 0 2 h w)))
+      go false e = let l = g (size-good n h e .0) in rw (list-same n m x h (λ w. l (either-live 0 2 h w)) (λ w. l (state-live 1 h w)))
 
   -- the clumps hs of m and ks of x have the same first fault, and are the same if there is none
   record Together (hs ks : List Head) : Type 0 where
@@ -128,14 +129,14 @@ module _ (n : ℕ) (m x : Mem) (hs : List Head) (g : Each (SameList m x) hs) whe
   target-fault-same : targetFault x hs ≡ targetFault m hs
   unfolding targetFault
   target-fault-same =
-      pending-same (invalid x hs) (invalid m hs) refl (λ h s. ap (λ (b : Bool). cond b none (some (faultAt 5 h))) (valid-same n m x hs h s))
+      pending-same (invalid x hs) (invalid m hs) refl (λ h s. ap (λ (b : Bool). cond b none (some (faultAt 5 h))) (valid-same n m x hs (due h) (chooses-due h) h s))
 
   recover-same : recoverStores x hs ≡ recoverStores m hs
   unfolding recoverStores
   recover-same =
       ap (λ (st : List Store). st ++ (releasing hs ++ joining (runs (map released hs))))
       (pending-same (finishing x) (finishing m) refl
-      (λ h s. ap₂ (cond (hasState ACTIVATING h)) (finish-activating-same n m x hs h s) (finish-freeing-same n m x hs h s)))
+      (λ h s. ap₂ (cond (hasState ACTIVATING h)) (finish-activating-same n m x hs h s) (finish-freeing-same n m x hs used refl h s)))
 
 -- the same verdict
 module _ (n : ℕ) (m x : Mem) (page : AgreePage m x) (g : SameUpTo n m x (walk n m)) where
@@ -187,11 +188,11 @@ module _ (n : ℕ) (m x : Mem) (page : AgreePage m x) (g : SameUpTo n m x (walk 
   verdict-same Create = refl
   verdict-same (Reserve size) = settled-same _ _ (λ s. ap (λ (hs : List Head). reserve hs size) (walk-same s))
   verdict-same (Onactive o t v) =
-      asked-same o (λ hs. enlist x hs RESERVED o t v) (λ hs. enlist m hs RESERVED o t v)
-      (λ h f. enlist-same n m x (walk n m) RESERVED o t v h (λ w. f (state-live 0 h w)))
+      asked-same o (λ hs. enlist x hs (hasState RESERVED) o t t v) (λ hs. enlist m hs (hasState RESERVED) o t t v)
+      (λ h f. enlist-same n m x (walk n m) (hasState RESERVED) o t t v h (λ w. f (state-live 0 h w)))
   verdict-same (Onfree o t v) =
-      asked-same o (λ hs. enlist x hs ACTIVE o t v) (λ hs. enlist m hs ACTIVE o t v)
-      (λ h f. enlist-same n m x (walk n m) ACTIVE o t v h (λ w. f (state-live 2 h w)))
+      asked-same o (λ hs. enlist x hs isWaiting o t (withMark t) v) (λ hs. enlist m hs isWaiting o t (withMark t) v)
+      (λ h f. enlist-same n m x (walk n m) isWaiting o t (withMark t) v h (λ w. f (either-live 0 2 h w)))
   verdict-same (Withdraw o) =
       asked-same o (λ hs. withdraw x o) (λ hs. withdraw m o) (λ h f. withdraw-same n m x (walk n m) o h (λ w. f (either-live 0 2 h w)))
   verdict-same (Activate o) =

@@ -1,2 +1,2 @@
--- What the contracts of `list` cite beside the rules, and the laws of its requests.
+-- The laws of onactive and onfree.
 pub mod Slots

@@ -3,64 +3,52 @@ ghost use mathlib.Core.Path.{_≡_};
 ghost use Prim.Native.Nat.{_+_, _%_, _≤_, _<_};
 ghost use lib.ListN.{length};
 ghost use Rattle.rules.specs.declared.Request.the-variants.{Onactive, Onfree};
-ghost use Rattle.rules.specs.Words.{wordBytes, wordValues, mem};
-ghost use Rattle.rules.specs.Clumps.{head, headerBytes};
+ghost use Rattle.rules.specs.Words.{wordBytes, mem};
+ghost use Rattle.rules.specs.Clumps.{head, headerBytes, bitValues};
 ghost use Rattle.rules.specs.Requests.{enlist, Does};
 ghost use Rattle.rules.specs.Reading.{clumpsOf, Tiled};
 ghost use Rattle.steps.specs.Acts.{Acts};
-ghost use Rattle.list.specs.Slots.{emptyIn};
 use page::clump::Clump;
+use page::entry;
 use rules::Answer;
 use walk::Found;
 use word::Power;
 
-// The target word of the first empty entry of the clump at h, or 0 where the list is full.
-fn empty_slot(h: usize, l: [[u64; 2]; 3]) -> usize
-    requires { ⌜ h + headerBytes < wordValues ⌝ }
-    ensures { λ r. ⌜ r ≡ emptyIn h l ⌝ }
-{
-    if l[0][0] == 0 {
-        return h + 16;
-    }
-    if l[1][0] == 0 {
-        return h + 32;
-    }
-    if l[2][0] == 0 {
-        return h + 48;
-    }
-    0
-}
-
-// A new entry in the list of the clump at h, which must be in the state that is allowed.
+// A new entry in the list of the clump at h, behind the last used one, if the clump's state allows it. The mark is added only to a target that
+// is valid, so that the sum does not wrap.
 fn enlist_at(
     img: &mut [u8],
     h: usize,
-    allowed: u64,
+    allowed: bool,
     offset: u64,
     target: u64,
+    mark: u64,
     value: u64,
     fuse: u64,
 ) -> Answer
     requires { ⌜ Tiled (now img) ⌝ }
     requires { ⌜ h + headerBytes ≤ length (now img) ⌝ }
     requires { ⌜ h % wordBytes ≡ 0 ⌝ }
-    ensures { λ r. ⌜ Acts (now (img .entry)) (enlist (mem (now (img .entry))) (clumpsOf (now (img .entry))) allowed offset target value (head (mem (now (img .entry))) h)) fuse (now (img .exit)) r ⌝ }
+    requires { ⌜ mark < bitValues ⌝ }
+    ensures { λ r. ⌜ Acts (now (img .entry)) (enlist (mem (now (img .entry))) (clumpsOf (now (img .entry))) (λ k. allowed) offset target (target + mark) value (head (mem (now (img .entry))) h)) fuse (now (img .exit)) r ⌝ }
 {
-    let c = Clump::read(img, h);
-    if c.state != allowed {
+    if !allowed {
         return answer::refusal(Answer::WRONG_STATE);
     }
     let l = Clump::list(img, h);
-    let s = empty_slot(h, l);
-    if s == 0 {
+    let k = entry::reach(l);
+    if k == 3 {
         return answer::refusal(Answer::LIST_FULL);
     }
     if !walk::valid(img, target) {
         return answer::refusal(Answer::BAD_TARGET);
     }
+    let s = h + 16 + 16 * k;
+    let value_at = s + 8;
+    let stored = target + mark;
     let p = Power::new(fuse);
-    let p1 = word::store(img, p, s + 8, value);
-    let p2 = word::store(img, p1, s, target);
+    let p1 = word::store(img, p, value_at, value);
+    let p2 = word::store(img, p1, s, stored);
     answer::finish(p2, offset)
 }
 
@@ -74,7 +62,9 @@ pub fn onactive(img: &mut [u8], offset: u64, target: u64, value: u64, fuse: u64)
     let Found::At(h, _) = walk::find(img, offset) else {
         return answer::refusal(Answer::NO_CLUMP);
     };
-    enlist_at(img, h, Clump::RESERVED, offset, target, value, fuse)
+    let c = Clump::read(img, h);
+    let allowed = c.state == Clump::RESERVED;
+    enlist_at(img, h, allowed, offset, target, 0, value, fuse)
 }
 
 pub fn onfree(img: &mut [u8], offset: u64, target: u64, value: u64, fuse: u64) -> Answer
@@ -87,5 +77,7 @@ pub fn onfree(img: &mut [u8], offset: u64, target: u64, value: u64, fuse: u64) -
     let Found::At(h, _) = walk::find(img, offset) else {
         return answer::refusal(Answer::NO_CLUMP);
     };
-    enlist_at(img, h, Clump::ACTIVE, offset, target, value, fuse)
+    let c = Clump::read(img, h);
+    let allowed = seen::header::waits(c.state);
+    enlist_at(img, h, allowed, offset, target, 1, value, fuse)
 }

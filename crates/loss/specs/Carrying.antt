@@ -8,20 +8,22 @@ use mathlib.Core.List.{List, [], _∷_, _++_}
 use native.Mathlib.Omega.{arith}
 use lib.ListN.{take, drop}
 use borrow.Author.Tests.{eqb-true}
-use Rattle.rules.specs.Lists.{those, Each}
+use Rattle.rules.specs.Lists.{Each}
 use Rattle.rules.specs.Words.{Mem, Store, after}
 use Rattle.rules.specs.Pages.{clumpsAt}
-use Rattle.rules.specs.Clumps.{Head, endOf, stateAt, hasState, isPending, isUsed, slots, usedSlots, entries, ACTIVATING, FREEING, Tiles}
+use Rattle.rules.specs.Clumps.{Head, endOf, stateAt, hasState, isPending, slots, due, waiting, slotsBy, entriesBy, ACTIVATING, FREEING, Tiles}
 use Rattle.rules.specs.Sound.{isValid, listBad}
 use Rattle.rules.specs.Stores.{emptying}
-use Rattle.laws.specs.Searches.{those-each, each-right, each-drop, each-take}
+use Rattle.laws.specs.Searches.{those-each, each-map, each-right, each-drop, each-take}
 use Rattle.laws.specs.Walks.{Reads}
-use Rattle.laws.specs.Headers.{AgreeAt, Agree, AgreePage, slots-same, used-same, entries-same, valid-same, pool-same}
+use Rattle.laws.specs.Choices.{chooses-due, chooses-waiting, due-apart}
+use Rattle.laws.specs.Headers.{AgreeAt, Agree, AgreePage, slots-same, targets-same, chosen-same, entries-same, valid-same, pool-same}
 use Rattle.laws.specs.Stored.{reads-right}
-use Rattle.loss.specs.Fates.{Kept, fates, fates-agree, Beyond, Leads}
+use Rattle.loss.specs.Fates.{Kept, fates-list, fates-agree, Beyond, Leads}
 use Rattle.loss.specs.Parts.{Elsewhere, Parted, parted-one, Segment, reads-agree, lists-agree, held-replaced, fates-replaced}
-use Rattle.loss.specs.Redo.{Spares, after-spared, after-at, redo-start, redo-end}
-use Rattle.loss.specs.Emptied.{emptied}
+use Rattle.loss.specs.Redo.{after-spared, after-at, redo-start, redo-end}
+use Rattle.loss.specs.Emptied.{InList, slots-in, emptying-spared, emptied, Fades, fades, faded-listing}
+use Rattle.loss.specs.Entries.{list-good, good-list, good-faded}
 use Rattle.loss.specs.Targets.{valid-entries, entries-valid, assigned-headers, assigned-page}
 
 -- headers that agree, and words that come to the same once the list is carried out
@@ -30,7 +32,7 @@ agree-leads :
     → Leads n D k w m p h q
     → AgreePage m x
     → Agree m x (p ++ (h ∷ q))
-    → ((o : ℕ) → D o → after x (entries m (h .at)) o ≡ after m (entries m (h .at)) o)
+    → ((o : ℕ) → D o → after x (entriesBy (due h) m (h .at)) o ≡ after m (entriesBy (due h) m (h .at)) o)
     → Leads n D k w x p h q
 agree-leads n D k w m x p h q f page g u =
     let hs = p ++ (h ∷ q) in
@@ -43,14 +45,14 @@ agree-leads n D k w m x p h q f page g u =
             below = f .pends .below;
             pending = f .pends .pending;
             above = f .pends .above;
-            valid = valid-same n m x hs h s ∙ f .pends .valid;
+            valid = valid-same n m x hs (due h) (chooses-due h) h s ∙ f .pends .valid;
           };
       kept = fates-agree m x hs g ∙ f .kept;
-      words = λ o y. ap (λ (st : List Store). after x st o) (entries-same m x (slots (h .at)) s) ∙ u o y ∙ f .words o y;
+      words = λ o y. ap (λ (st : List Store). after x st o) (entries-same (due h) (chooses-due h) m x (slots (h .at)) s) ∙ u o y ∙ f .words o y;
       off = f .off;
     }
 
--- a clump whose list is being carried out has no list that waits
+-- a clump whose list is being carried out
 pub busy : (h : Head) → isPending h ≡ true → (h .state ≡ ACTIVATING) ⊎ (h .state ≡ FREEING)
 busy h e = go (hasState ACTIVATING h) refl e
   where
@@ -58,22 +60,18 @@ busy h e = go (hasState ACTIVATING h) refl e
     go true q f = inl (eqb-true (h .state) ACTIVATING q)
     go false q f = inr (eqb-true (h .state) FREEING f)
 
-pub busy-good : (n : ℕ) (m : Mem) (h : Head) → isPending h ≡ true → listBad n m h ≡ false
-unfolding listBad
-busy-good n m h e = ⊎-elim (λ (z : h .state ≡ ACTIVATING). rw z) (λ (z : h .state ≡ FREEING). rw z) (busy h e)
-
 module _ (n : ℕ) (D : ℕ → Type 0) (k : List Kept) (w m : Mem) (p : List Head) (h : Head) (q : List Head) (f : Leads n D k w m p h q) where
   abbrev a : ℕ
   a = h .at
 
   abbrev st : List Store
-  st = entries m a
+  st = entriesBy (due h) m a
 
   abbrev hs : List Head
   hs = p ++ (h ∷ q)
 
   valid : Each (λ s. isValid hs (s .to) ≡ true) st
-  valid = valid-entries m hs h (f .pends .valid)
+  valid = valid-entries (due h) m hs h (f .pends .valid)
 
   tiles : Tiles clumpsAt hs n
   tiles = f .pends .held .tiles
@@ -98,40 +96,47 @@ module _ (n : ℕ) (D : ℕ → Type 0) (k : List Kept) (w m : Mem) (p : List He
   room : Parted n p a (h ∷ []) (endOf h) q
   room = parted-one n p h q tiles
 
-  -- the list lies in the header
-  used-in : Each (λ s. (a + 16 ≤ s) × (s < a + 64)) (usedSlots m a)
-  used-in =
-      those-each (λ s. (a + 16 ≤ s) × (s < a + 64)) (isUsed m) (slots a) ((omega arith, omega arith), ((omega arith, omega arith), ((omega arith, omega arith), tt)))
+  -- the entries that are due, as they are once they are made
+  abbrev due-slots : List ℕ
+  due-slots = slotsBy (due h) m a
 
-  spared : (j o : ℕ) → (o < a + 16) ⊎ (a + 64 ≤ o) → Spares o (emptying (take j (usedSlots m a)))
-  spared j o e = go (take j (usedSlots m a)) (each-take (λ s. (a + 16 ≤ s) × (s < a + 64)) j (usedSlots m a) used-in)
-    where
-      go : (sl : List ℕ) → Each (λ s. (a + 16 ≤ s) × (s < a + 64)) sl → Spares o (emptying sl)
-      go [] g = tt
-      go (s ∷ sl) g = ((λ z. ⊎-elim (λ x. absurd (omega (arith, g .0 .0))) (λ x. absurd (omega (arith, g .0 .1))) e), go sl (g .1))
+  pub due-same : slotsBy (due h) m2 a ≡ due-slots
+  due-same = chosen-same (due h) m m2 (slots a) (targets-same (due h) (chooses-due h) m m2 (slots a) (slots-same m m2 a own))
+
+  -- the list lies in the header
+  due-in : Each (InList a) due-slots
+  due-in = those-each (InList a) (λ s. due h (m s)) (slots a) (slots-in a)
 
   -- the list, emptied of its first j entries
   abbrev x : ℕ → Mem
-  x j = after m2 (emptying (take j (usedSlots m a)))
+  x j = after m2 (emptying (take j due-slots))
 
-  pub left : (j : ℕ) → entries (x j) a ≡ drop j st
+  left : (j : ℕ) → entriesBy (due h) (x j) a ≡ drop j st
   left j =
-      ap (λ (sl : List ℕ). entries (after m2 (emptying (take j sl))) a) (sym (used-same m m2 (slots a) (slots-same m m2 a own)))
-      ∙ emptied m2 a j
-      ∙ ap (drop j) (entries-same m m2 (slots a) (slots-same m m2 a own))
+      ap (λ (sl : List ℕ). entriesBy (due h) (after m2 (emptying (take j sl))) a) (sym due-same)
+      ∙ emptied (due h) (chooses-due h) m2 a j
+      ∙ ap (drop j) (entries-same (due h) (chooses-due h) m m2 (slots a) (slots-same m m2 a own))
 
-  spared-word : (j o : ℕ) → (o < a + 16) ⊎ (a + 64 ≤ o) → x j o ≡ m2 o
-  spared-word j o e = after-spared m2 (emptying (take j (usedSlots m a))) o (spared j o e)
+  outside : (j o : ℕ) → (o < a + 16) ⊎ (a + 64 ≤ o) → x j o ≡ m2 o
+  outside j o e =
+      after-spared m2 (emptying (take j due-slots)) o
+      (emptying-spared o (take j due-slots)
+      (each-map (InList a) (λ s. o ≡ s → ⊥) (take j due-slots) (λ s i z. ⊎-elim (λ y. absurd (omega (arith, i .low))) (λ y. absurd (omega (arith, i .high))) e)
+      (each-take (InList a) j due-slots due-in)))
+
+  -- each entry is as it was, or emptied
+  faded : (j : ℕ) → Each (Fades (due h) m2 (x j)) (slots a)
+  faded j = subst (λ (sl : List ℕ). Each (Fades (due h) m2 (after m2 (emptying (take j sl)))) (slots a)) due-same (fades (due h) m2 a j)
 
   emptied-elsewhere : (j : ℕ) → Elsewhere a (endOf h) m2 (x j)
-  emptied-elsewhere j o e = let l = room .part .0 .least in spared-word j o (⊎-elim (λ y. inl (omega arith)) (λ y. inr (omega arith)) e)
+  emptied-elsewhere j o e = let l = room .part .0 .least in outside j o (⊎-elim (λ y. inl (omega arith)) (λ y. inr (omega arith)) e)
 
   -- the places of D are beyond the header
   beyond : (o : ℕ) → D o → Beyond o h
   beyond o y = each-right (Beyond o) p (h ∷ q) (f .off o y) .0
 
   emptied-words : (j o : ℕ) → D o → x j o ≡ m2 o
-  emptied-words j o y = spared-word j o (⊎-elim (λ l. inl (omega arith)) (λ l. inr l) (beyond o y))
+  emptied-words j o y = outside j o (⊎-elim (λ l. inl (omega arith)) (λ l. inr l) (beyond o y))
 
   -- all assignments are made
   pub assigned-leads : Leads n D k w m2 p h q
@@ -141,16 +146,20 @@ module _ (n : ℕ) (D : ℕ → Type 0) (k : List Kept) (w m : Mem) (p : List He
   own-reads = reads-right m2 p (h ∷ q) (assigned-leads .pends .held .reads)
 
   -- emptying, cut after j
+  emptying-good : (j : ℕ) → listBad n (x j) h ≡ false
+  emptying-good j =
+      let b = each-right (λ g. listBad n m2 g ≡ false) p (h ∷ q) (assigned-leads .pends .held .lists) .0 in
+      good-list n (x j) h (good-faded (waiting h) n (due h) m2 (x j) (slots a) (chooses-waiting h) (faded j) (list-good n m2 h b))
+
   emptying-segment : (j : ℕ) → Segment n (x j) a (h ∷ []) (endOf h)
   emptying-segment j =
       record {
         tiles = room .part;
-        reads = (spared-word j a (inl (omega arith)) ∙ own-reads .0, spared-word j (stateAt a) (inl (omega arith)) ∙ own-reads .1, tt);
-        lists = (busy-good n (x j) h (f .pends .pending), tt);
+        reads = (outside j a (inl (omega arith)) ∙ own-reads .0, outside j (stateAt a) (inl (omega arith)) ∙ own-reads .1, tt);
+        lists = (emptying-good j, tt);
       }
 
   pub emptying-leads : h .state ≡ ACTIVATING → (j : ℕ) → Leads n D k w (x j) p h q
-  unfolding fates those
   emptying-leads z j =
       record {
         pends =
@@ -159,9 +168,11 @@ module _ (n : ℕ) (D : ℕ → Type 0) (k : List Kept) (w m : Mem) (p : List He
               below = f .pends .below;
               pending = f .pends .pending;
               above = f .pends .above;
-              valid = entries-valid (x j) hs h (subst (Each (λ s. isValid hs (s .to) ≡ true)) (sym (left j)) (each-drop (λ s. isValid hs (s .to) ≡ true) j st valid));
+              valid = entries-valid (due h) (x j) hs h (subst (Each (λ s. isValid hs (s .to) ≡ true)) (sym (left j)) (each-drop (λ s. isValid hs (s .to) ≡ true) j st valid));
             };
-        kept = fates-replaced n m2 (x j) p a (h ∷ []) (h ∷ []) (endOf h) q room (emptied-elsewhere j) (rw z) ∙ assigned-leads .kept;
+        kept = fates-replaced n m2 (x j) p a (h ∷ []) (h ∷ []) (endOf h) q room (emptied-elsewhere j)
+            (fates-list m2 (x j) h (faded-listing (due h) (waiting h) (due-apart h z) (chooses-waiting h) m2 (x j) (slots a) (faded j)))
+            ∙ assigned-leads .kept;
         words = λ o y. ap (λ (l : List Store). after (x j) l o) (left j) ∙ after-at m2 (x j) (drop j st) o (emptied-words j o y) ∙ redo-end m st j o ∙ f .words o y;
         off = f .off;
       }

@@ -14,7 +14,7 @@ use Rattle.rules.specs.Lists.{any}
 use Rattle.rules.specs.Words.{Image, Mem, Store, Aligned, store, mem, upd, after, carry, zeros, allZero, le, wordBytes}
 use Rattle.rules.specs.Pages.{pageBytes, staticAt, headerAt, signature, signatureLow, signatureHigh, signatureHighAt, totalAt, paddingAt, paddingWords, clumpsAt, rightLength, isPool}
 use Rattle.rules.specs.Clumps.{Head, headerBytes, stateAt, FREE}
-use Rattle.rules.specs.Sound.{listBad, touching, unsettled}
+use Rattle.rules.specs.Sound.{touching, unsettled}
 use Rattle.rules.specs.Stores.{createStores, createCount}
 use Rattle.rules.specs.Requests.{verdict, storesFor}
 use Rattle.rules.specs.PowerLoss.{CreateCut, Created}
@@ -24,6 +24,7 @@ use Rattle.laws.specs.Searches.{each-append, each-take}
 use Rattle.laws.specs.OneWord.{create-aligned}
 use Rattle.laws.specs.Founding.{create-length}
 use Rattle.laws.specs.Pools.{right-length}
+use Rattle.loss.specs.Entries.{unjudged}
 use Rattle.loss.specs.Held.{Held, held-walk, idle-sound}
 use Rattle.loss.specs.Redo.{Other, Spares, after-spared}
 use Rattle.loss.specs.Blanked.{Leaves, At, leaves-last, leaves-behind, zeros-other, zeros-first, zeros-blank, zero-slice}
@@ -174,14 +175,13 @@ module _ (n : ℕ) where
       rw (r, eq-eqb _ signatureLow (low-left m), eq-eqb _ signatureHigh (high-left m), eq-eqb _ n (total-left m), padding-left m)
 
   whole-held : rightLength n ≡ true → Leaves (λ m. Held n m (whole ∷ [])) (createStores n)
-  unfolding listBad
   whole-held r m =
       let l = right-length n r in
       record {
         page = page-left r m;
         tiles = (record { here = refl; least = omega (arith, l .least); whole = omega (arith, l .least, l .whole); known = omega arith }, omega (arith, l .least));
         reads = (nbytes-left m, state-left m, tt);
-        lists = (refl, tt);
+        lists = (unjudged n (after m (createStores n)) whole refl refl, tt);
       }
 
 -- finished, it is a settled pool of one FREE clump, and its static area is zeros

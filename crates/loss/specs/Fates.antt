@@ -2,29 +2,30 @@
 -- no header covers. By the laws of choices in lists. Assumes nothing.
 use Prim.Native.Nat.{ℕ, _<_, _≤_}
 use mathlib.Core.Path.{_≡_, refl, sym, ap, _∙_}
-use mathlib.Core.Bool.{Bool, true, false, cond, _||_}
+use mathlib.Core.Bool.{Bool, true, false, _||_}
 use mathlib.Core.Logic.{_⊎_}
 use mathlib.Core.List.{List, [], _∷_, _++_, map}
 use Rattle.rules.specs.Lists.{those, any, Each}
-use Rattle.rules.specs.Words.{Mem, Store, after}
+use Rattle.rules.specs.Words.{Mem, after}
 use Rattle.rules.specs.Pages.{staticAt, staticEnd}
-use Rattle.rules.specs.Clumps.{Head, bodyOf, endOf, hasState, slots, entries, ACTIVATING, ACTIVE}
-use Rattle.rules.specs.Reading.{within}
+use Rattle.rules.specs.Clumps.{Head, bodyOf, endOf, hasState, slots, due, waiting, entriesBy, ACTIVATING, ACTIVE}
+use Rattle.rules.specs.Reading.{Listed, listing, within}
 use Rattle.laws.specs.Searches.{those-each, those-nil, those-append, each-map}
-use Rattle.laws.specs.Headers.{AgreeAt, Agree, slots-same, entries-same, map-same}
+use Rattle.laws.specs.Choices.{chooses-waiting}
+use Rattle.laws.specs.Headers.{AgreeAt, Agree, slots-same, listing-same, map-same}
 use Rattle.laws.specs.Stored.{withState}
 use Rattle.loss.specs.Held.{Held, Idle, Pends}
 
--- a clump that recovery keeps is ACTIVE then, and has its list, or none if that is being carried out
+-- a clump that recovery keeps is ACTIVE then, and has the entries that wait: its list, or the marked ones if that is being carried out
 pub record Kept : Type 0 where
   pub clump : Head
-  pub list : List Store
+  pub list : List Listed
 
 abbrev pub isKept : Head → Bool
 isKept h = hasState ACTIVE h || hasState ACTIVATING h
 
 abbrev pub keptOf : Mem → Head → Kept
-keptOf m h = record { clump = withState h ACTIVE; list = cond (hasState ACTIVE h) (entries m (h .at)) [] }
+keptOf m h = record { clump = withState h ACTIVE; list = listing (waiting h) m (h .at) }
 
 unfoldable pub fates : Mem → List Head → List Kept
 fates m hs = map (keptOf m) (those isKept hs)
@@ -47,11 +48,11 @@ unfolding fates those
 fates-one m h e = rw e
 
 -- the list tells what is kept of a clump
-pub fates-list : (m x : Mem) (h : Head) → entries x (h .at) ≡ entries m (h .at) → fates x (h ∷ []) ≡ fates m (h ∷ [])
+pub fates-list : (m x : Mem) (h : Head) → listing (waiting h) x (h .at) ≡ listing (waiting h) m (h .at) → fates x (h ∷ []) ≡ fates m (h ∷ [])
 fates-list m x h e = go (isKept h) refl
   where
     go : (b : Bool) → isKept h ≡ b → fates x (h ∷ []) ≡ fates m (h ∷ [])
-    go true q = fates-one x h q ∙ ap (λ (st : List Store). record { clump = withState h ACTIVE; list = cond (hasState ACTIVE h) st [] } ∷ []) e ∙ sym (fates-one m h q)
+    go true q = fates-one x h q ∙ ap (λ (l : List Listed). record { clump = withState h ACTIVE; list = l } ∷ []) e ∙ sym (fates-one m h q)
     go false q = fates-none x (h ∷ []) (q, tt) ∙ sym (fates-none m (h ∷ []) (q, tt))
 
 -- the headers tell what is kept
@@ -60,7 +61,7 @@ unfolding fates
 fates-agree m x hs g =
     map-same (keptOf x) (keptOf m) (those isKept hs)
     (each-map (λ h. AgreeAt m x (h .at)) (λ h. keptOf x h ≡ keptOf m h) (those isKept hs)
-    (λ h f. ap (λ (st : List Store). record { clump = withState h ACTIVE; list = cond (hasState ACTIVE h) st [] }) (entries-same m x (slots (h .at)) (slots-same m x (h .at) f)))
+    (λ h f. ap (λ (l : List Listed). record { clump = withState h ACTIVE; list = l }) (listing-same (waiting h) (chooses-waiting h) m x (slots (h .at)) (slots-same m x (h .at) f)))
     (those-each (λ h. AgreeAt m x (h .at)) isKept hs g))
 
 -- the word at o is none of a header's
@@ -85,7 +86,7 @@ module _ (n : ℕ) (D : ℕ → Type 0) (k : List Kept) (w : Mem) where
   pub record Leads (m : Mem) (p : List Head) (h : Head) (q : List Head) : Type 0 where
     pub pends : Pends n m p h q
     pub kept : fates m (p ++ (h ∷ q)) ≡ k
-    pub words : (o : ℕ) → D o → after m (entries m (h .at)) o ≡ w o
+    pub words : (o : ℕ) → D o → after m (entriesBy (due h) m (h .at)) o ≡ w o
     pub off : (o : ℕ) → D o → Each (Beyond o) (p ++ (h ∷ q))
 
   pub data Led (m : Mem) : Type 0 where

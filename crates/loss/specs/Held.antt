@@ -11,7 +11,7 @@ use borrow.Author.Tests.{le-ltb, eq-eqb}
 use Rattle.rules.specs.Lists.{seek, those, Each}
 use Rattle.rules.specs.Words.{Mem}
 use Rattle.rules.specs.Pages.{clumpsAt, unit, isPool}
-use Rattle.rules.specs.Clumps.{Head, endOf, leastClump, FREEING, isPending, Tiles, walk}
+use Rattle.rules.specs.Clumps.{Head, endOf, leastClump, FREEING, isPending, due, Tiles, walk}
 use Rattle.rules.specs.Sound.{sizeBad, stateBad, listBad, faultOf, faultAt, clumpFault, secondFault, allValid, targetFault, judge}
 use Rattle.laws.specs.Searches.{differ, seek-none, none-seek, seek-split, seek-at, those-nil, those-append, each-map}
 use Rattle.laws.specs.Tilings.{tiles-le}
@@ -35,7 +35,7 @@ pub record Pends (n : ℕ) (m : Mem) (p : List Head) (h : Head) (q : List Head) 
   pub below : Each Idle p
   pub pending : isPending h ≡ true
   pub above : Each Idle q
-  pub valid : allValid m (p ++ (h ∷ q)) h ≡ true
+  pub valid : allValid (due h) m (p ++ (h ∷ q)) h ≡ true
 
 -- the walk finds these clumps
 pub held-walk : (n : ℕ) (m : Mem) (hs : List Head) → Held n m hs → walk n m ≡ hs
@@ -121,5 +121,5 @@ sound-stands n m s = go (seek isPending (walk n m)) refl
           below = x .before;
           pending = x .passes;
           above = others-idle (x .lower) h (x .higher) (subst (λ (hs : List Head). secondFault hs ≡ none) i (f .second)) (x .before) (x .passes);
-          valid = subst (λ (hs : List Head). allValid m hs h ≡ true) i (targets-valid m (walk n m) h e (f .targets));
+          valid = subst (λ (hs : List Head). allValid (due h) m hs h ≡ true) i (targets-valid m (walk n m) h e (f .targets));
         }))

@@ -8,16 +8,16 @@ use native.Mathlib.Omega.{arith}
 use lib.ListN.{length, take}
 use lib.Seq.{take-length}
 use lib.Dec.{ltb}
-use borrow.Author.Tests.{ltb-false}
+use borrow.Author.Tests.{ltb-false, le-ltb}
 use Rattle.rules.specs.declared.Request.{Request}
 use Rattle.rules.specs.declared.Request.the-variants.{Create, Reserve, Onactive, Onfree, Withdraw, Activate, Free, Check, Recover}
 use Rattle.rules.specs.Words.{Image, Mem, Store, Bytes, mem, after, carry}
 use Rattle.rules.specs.Pages.{headerAt, staticAt, staticEnd, rightLength}
 use Rattle.rules.specs.Clumps.{Head, bodyOf, endOf, isWaiting, walk}
 use Rattle.rules.specs.Sound.{unsettled}
-use Rattle.rules.specs.Requests.{Numbers, storesFor, cut, finished}
+use Rattle.rules.specs.Requests.{Numbers, finder, storesFor, cut, finished}
 use Rattle.rules.specs.Reading.{clumpsOf, within, inPart, mayWrite, hidden}
-use Rattle.rules.specs.Traces.{Wrote, Recovering, isCreate, isCarriedThrough, Cut, Ready, created, asked, recovered, written, OnTheWay, ready, cutOff, asIf}
+use Rattle.rules.specs.Traces.{Wrote, Recovering, isCreate, beforeTurn, isThrough, Cut, Ready, created, asked, recovered, written, OnTheWay, ready, cutOff, asIf}
 use Rattle.rules.specs.Demands.{Settled, Alike}
 use Rattle.rules.specs.PowerLoss.{AlwaysTiles, StaysSettled, ReadsAs}
 use Rattle.word.specs.Memory.{length-carry, bytes-carry}
@@ -74,7 +74,7 @@ recovered-serves n D k w img r =
     }
 
 -- a cut
-course-of : (img : Image) (q : Request) → Serves img → isCreate q ≡ false → Course (length img) (mem img) (isCarriedThrough q) (storesFor img q)
+course-of : (img : Image) (q : Request) → Serves img → isCreate q ≡ false → Course (length img) (mem img) (isThrough (mem img) (clumpsOf img) q) (storesFor img q)
 course-of img q s c = courses (length img) (mem img) q (settled-sound img (s .settled)) (s .settled .calm) c
 
 cut-stays : (img : Image) (q : Request) (j : ℕ) → Serves img → Numbers q → isCreate q ≡ false → Stays (length img) (cut img q j)
@@ -177,19 +177,31 @@ record Twins (img x y : Image) : Type 0 where
   one : Leading (length img) (Owned kept) kept words x
   other : Leading (length img) (Owned kept) kept words y
 
+-- with no store made nothing is carried through
+none-through : (m : Mem) (hs : List Head) (q : Request) → isThrough m hs q 0 ≡ false
+none-through m hs Create = refl
+none-through m hs (Reserve size) = refl
+none-through m hs (Onactive o t v) = refl
+none-through m hs (Onfree o t v) = refl
+none-through m hs (Withdraw o) = refl
+none-through m hs (Activate o) = refl
+none-through m hs (Free o) = le-ltb (beforeTurn m (finder hs o)) 0 (omega arith)
+none-through m hs Check = refl
+none-through m hs Recover = refl
+
 twins : (img : Image) (q : Request) (j : ℕ) → Serves img → Numbers q → isCreate q ≡ false → j < length (storesFor img q) → Twins img (asIf img q j) (cut img q j)
 unfolding carry
 twins img q zero s u c l =
     let g = own-fate (length img) (mem img) (settled-sound img (s .settled)) in
     let f : Leading (length img) (Owned (g .kept)) (g .kept) (g .words) img = record { bytes = s .bytes; long = refl; led = g .one } in
-    record { kept = g .kept; words = g .words; one = f; other = f }
+    rw (none-through (mem img) (clumpsOf img) q) (record { kept = g .kept; words = g .words; one = f; other = f })
 twins img q (suc j) s u c l =
     let d = course-of img q s c .same (suc j) (omega arith) l in
     let e = cut-stays img q (suc j) s u c in
     record {
       kept = d .kept;
       words = d .words;
-      one = go (isCarriedThrough q) (d .one);
+      one = go (isThrough (mem img) (clumpsOf img) q (suc j)) (d .one);
       other = record { bytes = e .bytes; long = e .long; led = subst (Led (length img) (Owned (d .kept)) (d .kept) (d .words)) (sym (cut-mem img q (suc j) (s .bytes) u)) (d .other) };
     }
   where

@@ -21,6 +21,7 @@ use Rattle.loss.specs.Held.{Idle}
 use Rattle.loss.specs.Fates.{Kept, isKept, fates-none, Beyond, Rests}
 use Rattle.loss.specs.Joined.{joinedTo}
 use Rattle.loss.specs.Parts.{one-store, parted, replaced}
+use Rattle.loss.specs.Entries.{unjudged}
 
 -- a FREE clump has no list, is at rest and is not kept
 pub record Loose (n : ℕ) (m : Mem) (h : Head) : Type 0 where
@@ -29,8 +30,7 @@ pub record Loose (n : ℕ) (m : Mem) (h : Head) : Type 0 where
   pub lost : isKept h ≡ false
 
 pub free-loose : (n : ℕ) (m : Mem) (h : Head) → isFree h ≡ true → Loose n m h
-unfolding listBad
-free-loose n m h e = let z = eqb-true (h .state) FREE e in record { list = rw z; idle = rw z; lost = rw z }
+free-loose n m h e = let z = eqb-true (h .state) FREE e in record { list = unjudged n m h (rw z) (rw z); idle = rw z; lost = rw z }
 
 -- the clumps of a tiling have whole units together
 whole-bytes : (a b : ℕ) (hs : List Head) → Tiles a hs b → bytesOf hs % unit ≡ 0

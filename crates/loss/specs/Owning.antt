@@ -7,7 +7,7 @@ use mathlib.Core.List.{List, [], _∷_, _++_, map}
 use Rattle.rules.specs.Lists.{those, any, Each}
 use Rattle.rules.specs.Words.{Mem, after}
 use Rattle.rules.specs.Pages.{clumpsAt, staticAt, staticEnd}
-use Rattle.rules.specs.Clumps.{Head, bodyOf, endOf, isLive, entries, Tiles, walk}
+use Rattle.rules.specs.Clumps.{Head, bodyOf, endOf, isLive, due, entriesBy, Tiles, walk}
 use Rattle.rules.specs.Reading.{within, inPart}
 use Rattle.laws.specs.Searches.{each-map}
 use Rattle.laws.specs.Pools.{Sound}
@@ -58,7 +58,7 @@ owned-beyond n m hs t o e = each-map (Off o) (Beyond o) hs (λ h f. f .header) (
 pub rests-as : (n : ℕ) (D : ℕ → Type 0) (m : Mem) (hs : List Head) → Held n m hs → Each Idle hs → ((o : ℕ) → D o → Each (Beyond o) hs) → Rests n D (fates m hs) m m hs
 rests-as n D m hs f i g = record { held = f; idle = i; kept = refl; words = λ o d. refl; off = g }
 
-pub leads-as : (n : ℕ) (D : ℕ → Type 0) (m : Mem) (p : List Head) (h : Head) (q : List Head) → Pends n m p h q → ((o : ℕ) → D o → Each (Beyond o) (p ++ (h ∷ q))) → Leads n D (fates m (p ++ (h ∷ q))) (after m (entries m (h .at))) m p h q
+pub leads-as : (n : ℕ) (D : ℕ → Type 0) (m : Mem) (p : List Head) (h : Head) (q : List Head) → Pends n m p h q → ((o : ℕ) → D o → Each (Beyond o) (p ++ (h ∷ q))) → Leads n D (fates m (p ++ (h ∷ q))) (after m (entriesBy (due h) m (h .at))) m p h q
 leads-as n D m p h q f g = record { pends = f; kept = refl; words = λ o d. refl; off = g }
 
 -- recovery makes the same of both
@@ -81,4 +81,4 @@ own-fate n m s = go (walk n m) (sound-stands n m s)
         record { kept = fates m hs; words = m; one = resting r; other = resting r }
     go hs (pends {p} {h} {q} f) =
         let r = leads-as n (Owned (fates m (p ++ (h ∷ q)))) m p h q f (owned-beyond n m (p ++ (h ∷ q)) (f .held .tiles)) in
-        record { kept = fates m (p ++ (h ∷ q)); words = after m (entries m (h .at)); one = leading r; other = leading r }
+        record { kept = fates m (p ++ (h ∷ q)); words = after m (entriesBy (due h) m (h .at)); one = leading r; other = leading r }

@@ -58,7 +58,7 @@ reads-agree m x (h ∷ hs) g r =
 
 pub lists-agree : (n : ℕ) (m x : Mem) (hs : List Head) → Agree m x hs → Each (λ h. listBad n m h ≡ false) hs → Each (λ h. listBad n x h ≡ false) hs
 lists-agree n m x [] g e = tt
-lists-agree n m x (h ∷ hs) g e = (list-same n m x h (λ w. slots-same m x (h .at) (g .0)) ∙ e .0, lists-agree n m x hs (g .1) (e .1))
+lists-agree n m x (h ∷ hs) g e = (list-same n m x h (λ w. slots-same m x (h .at) (g .0)) (λ w. slots-same m x (h .at) (g .0)) ∙ e .0, lists-agree n m x hs (g .1) (e .1))
 
 -- a part of the clumps, from c up to d, between p and q
 pub record Parted (n : ℕ) (p : List Head) (c : ℕ) (mid : List Head) (d : ℕ) (q : List Head) : Type 0 where

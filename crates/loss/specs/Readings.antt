@@ -10,11 +10,11 @@ use lib.ListN.{length}
 use lib.Seq.{slice}
 use borrow.Author.Tests.{le-leb, lt-ltb}
 use Rattle.rules.specs.Lists.{those, any, Each}
-use Rattle.rules.specs.Words.{Image, Bytes, Mem, Store, mem}
+use Rattle.rules.specs.Words.{Image, Bytes, Mem, mem}
 use Rattle.rules.specs.Pages.{clumpsAt, staticAt, staticEnd}
-use Rattle.rules.specs.Clumps.{Head, bodyOf, endOf, hasState, RESERVED, ACTIVE, isPending, isLive, isWaiting, entries, Tiles, walk}
+use Rattle.rules.specs.Clumps.{Head, bodyOf, endOf, hasState, RESERVED, ACTIVE, isPending, isLive, isWaiting, used, Tiles, walk}
 use Rattle.rules.specs.Sound.{touching}
-use Rattle.rules.specs.Reading.{clumpsOf, reading, within}
+use Rattle.rules.specs.Reading.{Listed, listing, clumpsOf, reading, within}
 use Rattle.laws.specs.Searches.{differ, those-each, each-map}
 use Rattle.laws.specs.Totals.{five}
 use Rattle.laws.specs.Walking.{Placed, all-placed}
@@ -38,7 +38,7 @@ clumps k = map (λ c. c .clump) k
 -- the live clumps of hs are those kept, and the lists that wait are theirs
 record Tells (m : Mem) (hs : List Head) (k : List Kept) : Type 0 where
   live : those isLive hs ≡ clumps k
-  lists : map (λ h. entries m (h .at)) (those isWaiting hs) ≡ map (λ c. c .list) k
+  lists : map (λ h. listing used m (h .at)) (those isWaiting hs) ≡ map (λ c. c .list) k
 
 -- at rest with nothing reserved: a FREE clump is not kept, an ACTIVE one is kept as it stands
 tells : (m : Mem) (a b : ℕ) (hs : List Head) → Tiles a hs b → Each Idle hs → Each (λ h. hasState RESERVED h ≡ false) hs → Tells m hs (fates m hs)
@@ -53,7 +53,7 @@ tells m a b (h ∷ hs) t i u =
     (λ p q.
     record {
       live = ap (λ (ks : List Head). withState h ACTIVE ∷ ks) (r .live);
-      lists = ap (λ (ls : List (List Store)). entries m (h .at) ∷ ls) (r .lists);
+      lists = ap (λ (ls : List (List Listed)). listing used m (h .at) ∷ ls) (r .lists);
     })
     (λ p q. differ refl p)
     (h .state)

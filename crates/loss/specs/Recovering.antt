@@ -12,7 +12,6 @@ use borrow.Author.Tests.{eqb-true}
 use Rattle.rules.specs.Lists.{Each}
 use Rattle.rules.specs.Words.{Mem, Store, upd, after}
 use Rattle.rules.specs.Clumps.{Head, hasState, isPending, stateAt, FREE, RESERVED, walk}
-use Rattle.rules.specs.Sound.{listBad}
 use Rattle.rules.specs.Answers.{bytesOf}
 use Rattle.rules.specs.Stores.{setState, finishing, releasing, released, Run, runs, joinRun, joining, recoverStores}
 use Rattle.word.specs.Memory.{after-append}
@@ -23,6 +22,7 @@ use Rattle.loss.specs.Cuts.{Every, every-append}
 use Rattle.loss.specs.Orders.{recoverOrder}
 use Rattle.loss.specs.Held.{held-walk, pends-seek}
 use Rattle.loss.specs.Fates.{Kept, isKept, Rests, Leads, Led, resting, leading}
+use Rattle.loss.specs.Entries.{unjudged}
 use Rattle.loss.specs.Finishing.{finishing-led}
 use Rattle.loss.specs.Turning.{state-rests}
 use Rattle.loss.specs.Joined.{whole, whole-lone, flat, flat-runs, first-each, FreeMore, FreeRun, free-runs, joined-calm}
@@ -59,11 +59,10 @@ module _ (n : ℕ) (D : ℕ → Type 0) (k : List Kept) (w : Mem) where
 
   -- RESERVED clumps are released
   release-one : (m : Mem) (p : List Head) (h : Head) (q : List Head) → hasState RESERVED h ≡ true → Rests n D k w m (p ++ (h ∷ q)) → Rests n D k w (upd m (stateAt (h .at)) FREE) (p ++ (withState h FREE ∷ q))
-  unfolding listBad
   release-one m p h q e f =
       let z = eqb-true (h .state) RESERVED e in
       let i : isKept h ≡ false = rw z in
-      state-rests n D k w m p h q FREE f (omega arith) refl i refl refl
+      state-rests n D k w m p h q FREE f (omega arith) refl i refl (unjudged n (upd m (stateAt (h .at)) FREE) (withState h FREE) refl refl)
 
   pub released-comes : (hs p : List Head) (m : Mem) → Rests n D k w m (p ++ hs) → Comes m (releasing hs) (p ++ map freed hs)
   unfolding releasing Rattle.rules.specs.Lists.those

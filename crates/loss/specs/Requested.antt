@@ -1,23 +1,24 @@
 -- Every request on a settled pool takes its course, whatever its numbers: a refusal stores nothing, and what each test leaves is what the
 -- laws of its stores want. By cases on the requests. Assumes nothing.
-use Prim.Native.Nat.{ℕ}
+use Prim.Native.Nat.{ℕ, _%_}
 use mathlib.Core.Path.{_≡_, refl, sym, subst}
-use mathlib.Core.Bool.{Bool, true, false, not, or-true}
+use mathlib.Core.Bool.{Bool, true, false, not}
 use mathlib.Core.Option.{Option, some, none}
 use mathlib.Core.List.{List, [], _∷_, _++_}
-use lib.Dec.{eqb}
-use borrow.Author.Tests.{leb-true, eqb-false, not-false}
+use lib.Dec.{eqb, ltb}
+use borrow.Author.Tests.{leb-true, eqb-true, eqb-false, not-false}
 use Rattle.rules.specs.declared.Request.{Request}
 use Rattle.rules.specs.declared.Request.the-variants.{Create, Reserve, Onactive, Onfree, Withdraw, Activate, Free, Check, Recover}
 use Rattle.rules.specs.Lists.{seek, Each}
-use Rattle.rules.specs.Words.{Mem}
-use Rattle.rules.specs.Clumps.{Head, hasState, isFree, isWaiting, isEmpty, slots, usedSlots, RESERVED, ACTIVE, walk}
-use Rattle.rules.specs.Sound.{isValid, allValid, touching, unsettled}
+use Rattle.rules.specs.Words.{Mem, wordBytes}
+use Rattle.rules.specs.Clumps.{Head, hasState, isFree, isWaiting, slots, used, unmarked, freed, targetOf, withMark, slotsBy, entriesBy, RESERVED, walk}
+use Rattle.rules.specs.Sound.{isEven, isValid, allValid, touching, unsettled}
 use Rattle.rules.specs.Answers.{storesOf, sizeZero, wrongState, badTarget}
-use Rattle.rules.specs.Stores.{needOf, fits, reserveStores, freeStores, recoverStores}
-use Rattle.rules.specs.Requests.{placed, reserve, finder, listed, enlist, withdrawn, withdraw, activate, mayDrop, free, verdict}
-use Rattle.rules.specs.Traces.{isCreate, isCarriedThrough}
+use Rattle.rules.specs.Stores.{needOf, fits, reserveStores, activateStores, freeStores, recoverStores}
+use Rattle.rules.specs.Requests.{placed, reserve, finder, openSlot, listed, enlist, withdrawn, withdraw, activate, free, verdict}
+use Rattle.rules.specs.Traces.{isCreate, beforeTurn, isThrough}
 use Rattle.laws.specs.Searches.{differ, and-both, each-right, seek-split}
+use Rattle.laws.specs.Choices.{target-even, target-marked}
 use Rattle.laws.specs.Behind.{behind-test, behind-sound, behind-settled, behind-found}
 use Rattle.laws.specs.Pools.{Sound}
 use Rattle.laws.specs.Needs.{need-even, need-clump}
@@ -29,8 +30,8 @@ use Rattle.loss.specs.Reserving.{Reserved, reserves}
 use Rattle.loss.specs.Listing.{value-rests, target-held, withdrawn-held}
 use Rattle.loss.specs.Owning.{owned-off, owned-beyond, rests-as, own-fate}
 use Rattle.loss.specs.Recovering.{recovers}
-use Rattle.loss.specs.Courses.{Course, calm-idle, course-none, course-comes, course-two, course-one}
-use Rattle.loss.specs.Turns.{activate-course, free-course}
+use Rattle.loss.specs.Courses.{Course, never, Decides, calm-idle, course-none, course-comes, course-two, course-one, course-decides}
+use Rattle.loss.specs.Turns.{activate-decides, free-decides}
 
 -- a clump of a settled pool, with the clumps below and above it
 pub record Amid (n : ℕ) (m : Mem) (h : Head) : Type 0 where
@@ -56,7 +57,7 @@ amid n m t h s u e =
     }
 
 module _ (n : ℕ) (m : Mem) (s : Sound n m) (u : unsettled (walk n m) ≡ false) where
-  none-made : (b : Bool) → Course n m b []
+  none-made : (b : ℕ → Bool) → Course n m b []
   none-made b = course-none n m b s u
 
   -- the clump that reserve finds
@@ -74,93 +75,108 @@ module _ (n : ℕ) (m : Mem) (s : Sound n m) (u : unsettled (walk n m) ≡ false
       (leb-true (needOf size) (h .nbytes) (f .1))
       (rests-as n (Owned k) m (p ++ (h ∷ q)) (a .held) (a .idle) (owned-beyond n m (p ++ (h ∷ q)) t))
 
-  placed-course : (size : ℕ) → (size ≡ 0 → ⊥) → (o : Option Head) → seek (fits (needOf size)) (walk n m) ≡ o → Course n m false (storesOf (placed (needOf size) o))
+  placed-course : (size : ℕ) → (size ≡ 0 → ⊥) → (o : Option Head) → seek (fits (needOf size)) (walk n m) ≡ o → Course n m never (storesOf (placed (needOf size) o))
   unfolding reserveOrder
-  placed-course size z none e = none-made false
+  placed-course size z none e = none-made never
   placed-course size z (some h) e =
       let a = amid n m (fits (needOf size)) h s u e in
       let x = placing size z h e a in
-      course-comes n _ m m false (reserveStores (needOf size) h) (a .below ++ (x .clump ∷ x .above)) (x .comes) (x .calm (a .apart))
+      course-comes n _ m m never (reserveStores (needOf size) h) (a .below ++ (x .clump ∷ x .above)) (x .comes) (x .calm (a .apart))
 
   -- the list of a clump
-  listed-course : (h : Head) (o t v : ℕ) → Amid n m h → isWaiting h ≡ true → (e : Option ℕ) → seek (isEmpty m) (slots (h .at)) ≡ e → Course n m false (storesOf (listed (isValid (walk n m) t) e o t v))
+  listed-course : (h : Head) (o t r v : ℕ) → (isValid (walk n m) t ≡ true → targetOf r ≡ t) → Amid n m h → (e : Option ℕ) → openSlot m (slots (h .at)) ≡ e → Course n m never (storesOf (listed (isValid (walk n m) t) e o r v))
   unfolding listOrder
-  listed-course h o t v a w none e = none-made false
-  listed-course h o t v a w (some i) e =
-      behind-test (Course n m false) (none-made false) (not (isValid (walk n m) t)) badTarget _
-      (λ z. go (subst (λ (hs : List Head). isValid hs t ≡ true) (a .whole) (not-false _ z)))
+  listed-course h o t r v y a none e = none-made never
+  listed-course h o t r v y a (some i) e =
+      behind-test (Course n m never) (none-made never) (not (isValid (walk n m) t)) badTarget _
+      (λ z. let x = not-false _ z in go (subst (λ (hs : List Head). isValid hs (targetOf r) ≡ true) (a .whole) (rw (y x) x)))
     where
-      go : isValid (a .below ++ (h ∷ a .above)) t ≡ true → Course n m false (listOrder i t v)
+      go : isValid (a .below ++ (h ∷ a .above)) (targetOf r) ≡ true → Course n m never (listOrder i r v)
       go z =
           let p = a .below in
           let q = a .above in
           let hs = p ++ (h ∷ q) in
           let k = fates m hs in
           let f = rests-as n (Owned k) m hs (a .held) (a .idle) (owned-beyond n m hs (a .held .tiles)) in
-          let g = value-rests n m p h q i v w e (Owned k) k m f in
-          course-two n k m m _ _ hs f g (target-held n m p h q i v w e t z (a .held) (g .held)) (a .apart)
+          let g = value-rests n m p h q i v e (Owned k) k m f in
+          course-two n k m m _ _ hs f g (target-held n m p h q i v e r z (a .held) (g .held)) (a .apart)
 
-  enlist-course : (allowed o t v : ℕ) (h : Head) → Amid n m h → (hasState allowed h ≡ true → isWaiting h ≡ true) → Course n m false (storesOf (enlist m (walk n m) allowed o t v h))
+  enlist-course : (allowed : Head → Bool) (o t r v : ℕ) (h : Head) → (isValid (walk n m) t ≡ true → targetOf r ≡ t) → Amid n m h → Course n m never (storesOf (enlist m (walk n m) allowed o t r v h))
   unfolding enlist
-  enlist-course allowed o t v h a w =
-      behind-test (Course n m false) (none-made false) (not (hasState allowed h)) wrongState _
-      (λ z. listed-course h o t v a (w (not-false _ z)) (seek (isEmpty m) (slots (h .at))) refl)
+  enlist-course allowed o t r v h y a =
+      behind-test (Course n m never) (none-made never) (not (allowed h)) wrongState _
+      (λ z. listed-course h o t r v y a (openSlot m (slots (h .at))) refl)
 
-  withdrawn-course : (o : ℕ) (h : Head) → Amid n m h → isWaiting h ≡ true → (us : List ℕ) → usedSlots m (h .at) ≡ us → Course n m false (storesOf (withdrawn us o))
-  withdrawn-course o h a w [] e = none-made false
-  withdrawn-course o h a w (i ∷ us) e =
+  -- a valid target is divisible by 8, so that it is the target of its word, with its mark and without
+  even : (t : ℕ) → isValid (walk n m) t ≡ true → t % wordBytes ≡ 0
+  unfolding isValid
+  even t e = eqb-true (t % wordBytes) 0 (and-both (isEven t) _ e .0)
+
+  withdrawn-course : (o : ℕ) (h : Head) → Amid n m h → (us : List ℕ) → slotsBy used m (h .at) ≡ us → Course n m never (storesOf (withdrawn us o))
+  withdrawn-course o h a [] e = none-made never
+  withdrawn-course o h a (i ∷ us) e =
       let hs = a .below ++ (h ∷ a .above) in
-      course-one n m false _ hs (a .held) (a .idle) (withdrawn-held n m (a .below) h (a .above) i us w e (a .held)) (a .apart)
+      course-one n m never _ hs (a .held) (a .idle) (withdrawn-held n m (a .below) h (a .above) i us e (a .held)) (a .apart)
 
-  withdraw-course : (o : ℕ) (h : Head) → Amid n m h → Course n m false (storesOf (withdraw m o h))
+  withdraw-course : (o : ℕ) (h : Head) → Amid n m h → Course n m never (storesOf (withdraw m o h))
   unfolding withdraw
   withdraw-course o h a =
-      behind-test (Course n m false) (none-made false) (not (isWaiting h)) wrongState _ (λ z. withdrawn-course o h a (not-false _ z) (usedSlots m (h .at)) refl)
+      behind-test (Course n m never) (none-made never) (not (isWaiting h)) wrongState _ (λ z. withdrawn-course o h a (slotsBy used m (h .at)) refl)
 
   -- activate and free
-  activated-course : (o : ℕ) (h : Head) → Amid n m h → Course n m true (storesOf (activate m (walk n m) o h))
+  pub activating : (h : Head) (a : Amid n m h) → hasState RESERVED h ≡ true → allValid unmarked m (walk n m) h ≡ true → Decides n m (a .below ++ (h ∷ a .above)) (entriesBy unmarked m (h .at)) (activateStores m h) 0
+  activating h a e v = activate-decides n m (a .below) h (a .above) (a .held) (a .idle) e (subst (λ (hs : List Head). allValid unmarked m hs h ≡ true) (a .whole) v) (a .apart)
+
+  activated-course : (o : ℕ) (h : Head) → Amid n m h → Course n m (ltb 0) (storesOf (activate m (walk n m) o h))
   unfolding activate
   activated-course o h a =
-      behind-test (Course n m true) (none-made true) (not (hasState RESERVED h)) wrongState _
-      (λ z. behind-test (Course n m true) (none-made true) (not (allValid m (walk n m) h)) badTarget _
-      (λ v. activate-course n m (a .below) h (a .above) (a .held) (a .idle) (not-false _ z) (subst (λ (hs : List Head). allValid m hs h ≡ true) (a .whole) (not-false _ v)) (a .apart)))
+      behind-test (Course n m (ltb 0)) (none-made (ltb 0)) (not (hasState RESERVED h)) wrongState _
+      (λ z. behind-test (Course n m (ltb 0)) (none-made (ltb 0)) (not (allValid unmarked m (walk n m) h)) badTarget _
+      (λ v. course-decides n m _ _ _ 0 (a .held) (activating h a (not-false _ z) (not-false _ v))))
 
-  freed-course : (o : ℕ) (h : Head) → Amid n m h → Course n m true (storesOf (free m (walk n m) o h))
+  pub freeing : (h : Head) (a : Amid n m h) → isWaiting h ≡ true → allValid (freed h) m (walk n m) h ≡ true → Decides n m (a .below ++ (h ∷ a .above)) (entriesBy (freed h) m (h .at)) (freeStores m (walk n m) h) (beforeTurn m (some h))
+  freeing h a e v =
+      subst (λ (hs : List Head). Decides n m (a .below ++ (h ∷ a .above)) (entriesBy (freed h) m (h .at)) (freeStores m hs h) (beforeTurn m (some h))) (sym (a .whole))
+      (free-decides n m (a .below) h (a .above) (a .held) (a .idle) (a .apart) e (subst (λ (hs : List Head). allValid (freed h) m hs h ≡ true) (a .whole) v))
+
+  freed-course : (o : ℕ) (h : Head) → Amid n m h → Course n m (ltb (beforeTurn m (some h))) (storesOf (free m (walk n m) o h))
   unfolding free
   freed-course o h a =
-      behind-test (Course n m true) (none-made true) (not (isWaiting h)) wrongState _
-      (λ z. behind-test (Course n m true) (none-made true) (not (mayDrop m (walk n m) h)) badTarget _
-      (λ v. subst (λ (hs : List Head). Course n m true (freeStores m hs h)) (sym (a .whole))
-      (free-course n m (a .below) h (a .above) (a .held) (a .idle) (not-false _ z) (subst (λ (hs : List Head). mayDrop m hs h ≡ true) (a .whole) (not-false _ v)) (a .apart))))
+      let b = ltb (beforeTurn m (some h)) in
+      behind-test (Course n m b) (none-made b) (not (isWaiting h)) wrongState _
+      (λ z. behind-test (Course n m b) (none-made b) (not (allValid (freed h) m (walk n m) h)) badTarget _
+      (λ v. course-decides n m _ _ _ _ (a .held) (freeing h a (not-false _ z) (not-false _ v))))
 
 -- recovery, of any sound pool
-pub recover-course : (n : ℕ) (m : Mem) → Sound n m → Course n m false (recoverStores m (walk n m))
+pub recover-course : (n : ℕ) (m : Mem) → Sound n m → Course n m never (recoverStores m (walk n m))
 unfolding recoverOrder
 recover-course n m s =
     let f = own-fate n m s in
     let r = recovers n (Owned (f .kept)) (f .kept) (f .words) m (f .one) in
-    course-comes n (f .kept) (f .words) m false (recoverStores m (walk n m)) (r .clumps) (r .comes) (r .calm .apart)
+    course-comes n (f .kept) (f .words) m never (recoverStores m (walk n m)) (r .clumps) (r .comes) (r .calm .apart)
 
-pub courses : (n : ℕ) (m : Mem) (q : Request) → Sound n m → unsettled (walk n m) ≡ false → isCreate q ≡ false → Course n m (isCarriedThrough q) (storesOf (verdict n m q))
+pub courses : (n : ℕ) (m : Mem) (q : Request) → Sound n m → unsettled (walk n m) ≡ false → isCreate q ≡ false → Course n m (isThrough m (walk n m) q) (storesOf (verdict n m q))
 unfolding verdict reserve
 courses n m Create s u c = differ refl c
 courses n m (Reserve size) s u c =
-    behind-settled (Course n m false) (course-none n m false s u) n m _
-    (λ y z. behind-test (Course n m false) (course-none n m false s u) (eqb size 0) sizeZero _ (λ e. placed-course n m s u size (eqb-false size 0 e) (seek (fits (needOf size)) (walk n m)) refl))
+    behind-settled (Course n m never) (course-none n m never s u) n m _
+    (λ y z. behind-test (Course n m never) (course-none n m never s u) (eqb size 0) sizeZero _ (λ e. placed-course n m s u size (eqb-false size 0 e) (seek (fits (needOf size)) (walk n m)) refl))
 courses n m (Onactive o t v) s u c =
-    behind-settled (Course n m false) (course-none n m false s u) n m _
-    (λ y z. behind-found (Course n m false) (course-none n m false s u) (finder (walk n m) o) _ (λ h e. enlist-course n m s u RESERVED o t v h (amid n m _ h s u e) (λ w. rw w)))
+    behind-settled (Course n m never) (course-none n m never s u) n m _
+    (λ y z. behind-found (Course n m never) (course-none n m never s u) (finder (walk n m) o) _ (λ h e. enlist-course n m s u (hasState RESERVED) o t t v h (λ x. target-even t (even n m s u t x)) (amid n m _ h s u e)))
 courses n m (Onfree o t v) s u c =
-    behind-settled (Course n m false) (course-none n m false s u) n m _
-    (λ y z. behind-found (Course n m false) (course-none n m false s u) (finder (walk n m) o) _ (λ h e. enlist-course n m s u ACTIVE o t v h (amid n m _ h s u e) (λ w. rw w (or-true (hasState RESERVED h)))))
+    behind-settled (Course n m never) (course-none n m never s u) n m _
+    (λ y z. behind-found (Course n m never) (course-none n m never s u) (finder (walk n m) o) _ (λ h e. enlist-course n m s u isWaiting o t (withMark t) v h (λ x. target-marked t (even n m s u t x)) (amid n m _ h s u e)))
 courses n m (Withdraw o) s u c =
-    behind-settled (Course n m false) (course-none n m false s u) n m _
-    (λ y z. behind-found (Course n m false) (course-none n m false s u) (finder (walk n m) o) _ (λ h e. withdraw-course n m s u o h (amid n m _ h s u e)))
+    behind-settled (Course n m never) (course-none n m never s u) n m _
+    (λ y z. behind-found (Course n m never) (course-none n m never s u) (finder (walk n m) o) _ (λ h e. withdraw-course n m s u o h (amid n m _ h s u e)))
 courses n m (Activate o) s u c =
-    behind-settled (Course n m true) (course-none n m true s u) n m _
-    (λ y z. behind-found (Course n m true) (course-none n m true s u) (finder (walk n m) o) _ (λ h e. activated-course n m s u o h (amid n m _ h s u e)))
+    behind-settled (Course n m (ltb 0)) (course-none n m (ltb 0) s u) n m _
+    (λ y z. behind-found (Course n m (ltb 0)) (course-none n m (ltb 0) s u) (finder (walk n m) o) _ (λ h e. activated-course n m s u o h (amid n m _ h s u e)))
 courses n m (Free o) s u c =
-    behind-settled (Course n m true) (course-none n m true s u) n m _
-    (λ y z. behind-found (Course n m true) (course-none n m true s u) (finder (walk n m) o) _ (λ h e. freed-course n m s u o h (amid n m _ h s u e)))
-courses n m Check s u c = behind-sound (Course n m false) (course-none n m false s u) n m _ (λ y. course-none n m false s u)
-courses n m Recover s u c = behind-sound (Course n m false) (course-none n m false s u) n m _ (λ y. recover-course n m y)
+    let b = ltb (beforeTurn m (finder (walk n m) o)) in
+    behind-settled (Course n m b) (course-none n m b s u) n m _
+    (λ y z. behind-found (Course n m b) (course-none n m b s u) (finder (walk n m) o) _
+    (λ h e. subst (λ (f : Option Head). Course n m (ltb (beforeTurn m f)) (storesOf (free m (walk n m) o h))) (sym e) (freed-course n m s u o h (amid n m _ h s u e))))
+courses n m Check s u c = behind-sound (Course n m never) (course-none n m never s u) n m _ (λ y. course-none n m never s u)
+courses n m Recover s u c = behind-sound (Course n m never) (course-none n m never s u) n m _ (λ y. recover-course n m y)

@@ -2,38 +2,31 @@
 -- targets are words that nobody reads; the smaller nbytes splits the clump in two; the state comes last. No store reaches the body that it
 -- leaves. Assumes nothing.
 use Prim.Native.Nat.{ℕ, _+_, _-_, _%_, _<_, _≤_}
-use mathlib.Core.Path.{_≡_, refl, sym, ap, subst, _∙_}
-use mathlib.Core.Bool.{Bool, true, false, not}
+use mathlib.Core.Path.{_≡_, refl, sym, subst, _∙_}
+use mathlib.Core.Bool.{Bool, true, false}
 use mathlib.Core.Logic.{_⊎_, inl, inr, ⊎-elim}
-use mathlib.Core.List.{List, [], _∷_, _++_, map}
+use mathlib.Core.List.{List, [], _∷_, _++_}
 use native.Mathlib.Omega.{arith}
-use lib.Dec.{eqb, leb}
+use lib.Dec.{leb}
 use borrow.Author.Tests.{eqb-true, leb-true}
 use Rattle.rules.specs.Lists.{Each}
 use Rattle.rules.specs.Words.{Mem, Store, store, upd, after}
 use Rattle.rules.specs.Pages.{unit}
-use Rattle.rules.specs.Clumps.{Head, bodyOf, endOf, stateAt, isFree, isUsed, slots, entry, entries, leastClump, FREE, RESERVED}
-use Rattle.rules.specs.Sound.{touching, listBad}
+use Rattle.rules.specs.Clumps.{Head, bodyOf, endOf, stateAt, isFree, slots, leastClump, FREE, RESERVED}
+use Rattle.rules.specs.Sound.{touching}
 use Rattle.rules.specs.Stores.{emptying, setState, leastRest, reserveStores}
 use Rattle.word.specs.Memory.{upd-same, upd-other}
-use Rattle.laws.specs.Searches.{each-right, those-nil}
-use Rattle.laws.specs.Headers.{entries-same}
+use Rattle.laws.specs.Searches.{each-right}
 use Rattle.laws.specs.Stored.{withState, reads-right}
 use Rattle.laws.specs.Named.{Miss}
 use Rattle.loss.specs.Orders.{reserveOrder}
 use Rattle.loss.specs.Fates.{Kept, fates-none, Beyond, Rests}
-use Rattle.loss.specs.Parts.{one-store, front-slots, parted-one, replaced}
-use Rattle.loss.specs.Emptied.{empty-good}
+use Rattle.loss.specs.Parts.{one-store, parted-one, replaced}
+use Rattle.loss.specs.Entries.{unjudged, Bare, bare-good, bare-front}
 use Rattle.loss.specs.Turning.{state-rests}
 use Rattle.loss.specs.Merging.{free-loose}
 use Rattle.loss.specs.Calm.{touching-taken, touching-split}
 use Rattle.loss.specs.Recovering.{Comes, comes-none, comes-store}
-
--- a list with three empty targets
-no-targets : (x : Mem) (a : ℕ) → x (a + 16) ≡ 0 → x (a + 32) ≡ 0 → x (a + 48) ≡ 0 → entries x a ≡ []
-no-targets x a e f g =
-    let none : (s : ℕ) → x s ≡ 0 → isUsed x s ≡ false = (λ s z. ap (λ (v : ℕ). not (eqb v 0)) z) in
-    ap (map (entry x)) (those-nil (isUsed x) (slots a) (none _ e, (none _ f, (none _ g, tt))))
 
 -- what reserve leaves of the FREE clump h, between p and q
 pub record Reserved (n : ℕ) (D : ℕ → Type 0) (k : List Kept) (w m : Mem) (p : List Head) (h : Head) (q : List Head) (need : ℕ) : Type 0 where
@@ -86,7 +79,6 @@ module _ (n : ℕ) (D : ℕ → Type 0) (k : List Kept) (w : Mem) (p : List Head
       → m (stateAt (a + need)) ≡ FREE
       → Rests n D k w m (p ++ (h ∷ q))
       → Rests n D k w (upd m a need) (p ++ (fore need ∷ rest need ∷ q))
-  unfolding listBad
   splits m need e l u size state f =
       let x = upd m a need in
       let t = parted-one n p h q (f .held .tiles) in
@@ -105,7 +97,7 @@ module _ (n : ℕ) (D : ℕ → Type 0) (k : List Kept) (w : Mem) (p : List Head
           upd-other m a need (stateAt a) (omega arith) ∙ r .1 ∙ z,
           (upd-other m a need (a + need) (omega arith) ∙ size, upd-other m a need (stateAt (a + need)) (omega arith) ∙ state, tt),
         );
-        lists = (refl, (refl, tt));
+        lists = (unjudged n x (fore need) refl refl, (unjudged n x (rest need) refl refl, tt));
       })
       (refl, (refl, tt))
       (fates-none x (fore need ∷ rest need ∷ []) (refl, (refl, tt)) ∙ sym (fates-none m (h ∷ []) (free-loose n m h free .lost, tt)))
@@ -123,22 +115,22 @@ module _ (n : ℕ) (D : ℕ → Type 0) (k : List Kept) (w : Mem) (p : List Head
       let f3 = inner (upd (upd m (a + 16) 0) (a + 32) 0) (a + 48) 0 (omega arith) (omega arith) f2 in
       comes-store n D k w m _ _ gs hs f (comes-store n D k w _ _ _ gs hs f1 (comes-store n D k w _ _ st gs hs f2 (go f3)))
 
-  cleared : (m : Mem) → entries (after m (emptying (slots a))) a ≡ []
+  cleared : (m : Mem) → Bare (after m (emptying (slots a))) a
   unfolding after
   cleared m =
       let x = upd m (a + 16) 0 in
-      let y = upd x (a + 32) 0 in
-      let z = upd y (a + 48) 0 in
-      no-targets z a (upd-other y (a + 48) 0 (a + 16) (omega arith) ∙ upd-other x (a + 32) 0 (a + 16) (omega arith) ∙ upd-same m (a + 16) 0)
-      (upd-other y (a + 48) 0 (a + 32) (omega arith) ∙ upd-same x (a + 32) 0) (upd-same y (a + 48) 0)
+      let y = upd x (a + 32) 0 in (
+        upd-other y (a + 48) 0 (a + 16) (omega arith) ∙ upd-other x (a + 32) 0 (a + 16) (omega arith) ∙ upd-same m (a + 16) 0,
+        (upd-other y (a + 48) 0 (a + 32) (omega arith) ∙ upd-same x (a + 32) 0, (upd-same y (a + 48) 0, tt)),
+      )
 
   -- the state, last
-  takes : (y : Mem) (g : Head) (r : List Head) → g .at ≡ a → isFree g ≡ true → entries y a ≡ [] → Rests n D k w y (p ++ (g ∷ r)) → Rests n D k w (upd y (stateAt a) RESERVED) (p ++ (withState g RESERVED ∷ r))
+  takes : (y : Mem) (g : Head) (r : List Head) → g .at ≡ a → isFree g ≡ true → Bare y a → Rests n D k w y (p ++ (g ∷ r)) → Rests n D k w (upd y (stateAt a) RESERVED) (p ++ (withState g RESERVED ∷ r))
   takes y g r i e c f =
       let x = upd y (stateAt (g .at)) RESERVED in
-      let d : entries x (g .at) ≡ [] = entries-same y x (slots (g .at)) (front-slots y (g .at) (stateAt (g .at)) RESERVED (omega arith)) ∙ (rw i c) in
+      let d : Bare x (g .at) = bare-front y (g .at) (stateAt (g .at)) RESERVED (omega arith) (rw i c) in
       subst (λ (b : ℕ). Rests n D k w (upd y (stateAt b) RESERVED) (p ++ (withState g RESERVED ∷ r))) i
-      (state-rests n D k w y p g r RESERVED f (omega arith) refl (free-loose n y g e .lost) refl (empty-good n x (withState g RESERVED) d))
+      (state-rests n D k w y p g r RESERVED f (omega arith) refl (free-loose n y g e .lost) refl (bare-good n x (withState g RESERVED) d))
 
   whole-taken : (m : Mem) → Rests n D k w m (p ++ (h ∷ q)) → Comes n D k w m (emptying (slots a) ++ (setState h RESERVED ∷ [])) (p ++ (withState h RESERVED ∷ q))
   whole-taken m f =
@@ -167,7 +159,7 @@ module _ (n : ℕ) (D : ℕ → Type 0) (k : List Kept) (w : Mem) (p : List Head
       let through : (o : ℕ) → a + 64 ≤ o → m5 o ≡ m2 o = (λ o j. upd-other _ _ _ _ (omega arith) ∙ upd-other _ _ _ _ (omega arith) ∙ upd-other _ _ _ _ (omega arith)) in
       let size : m5 (a + need) ≡ h .nbytes - need = through (a + need) (omega arith) ∙ upd-other m1 (stateAt (a + need)) FREE (a + need) (omega arith) ∙ upd-same m (a + need) (h .nbytes - need) in
       let state : m5 (stateAt (a + need)) ≡ FREE = through (stateAt (a + need)) (omega arith) ∙ upd-same m1 (stateAt (a + need)) FREE in
-      let none : entries m6 a ≡ [] = entries-same m5 m6 (slots a) (front-slots m5 a a need (omega arith)) ∙ cleared m2 in
+      let none : Bare m6 a = bare-front m5 a a need (omega arith) (cleared m2) in
       let gs = p ++ (h ∷ q) in
       let ends = p ++ (withState (fore need) RESERVED ∷ rest need ∷ q) in
       comes-store n D k w m _ _ gs ends f

@@ -9,7 +9,7 @@ use native.Mathlib.Omega.{arith}
 use Rattle.rules.specs.Lists.{all, Each}
 use Rattle.rules.specs.Words.{Mem, Store, after}
 use Rattle.rules.specs.Pages.{clumpsAt}
-use Rattle.rules.specs.Clumps.{Head, usedSlots, entry, entries, Tiles}
+use Rattle.rules.specs.Clumps.{Head, Choice, slotsBy, targetAt, entry, entriesBy, Tiles}
 use Rattle.rules.specs.Sound.{isValid, allValid}
 use Rattle.laws.specs.Searches.{each-map, all-each}
 use Rattle.laws.specs.Headers.{Agree, AgreePage}
@@ -22,19 +22,19 @@ pub valid-beyond : (n t : ℕ) (hs : List Head) → Tiles clumpsAt hs n → isVa
 valid-beyond n t hs s e = each-map (Off t) (Beyond t) hs (λ h o. o .header) (valid-off n t hs s e)
 
 -- the list's targets, entry by entry
-pub valid-entries : (m : Mem) (hs : List Head) (h : Head) → allValid m hs h ≡ true → Each (λ s. isValid hs (s .to) ≡ true) (entries m (h .at))
+pub valid-entries : (c : Choice) (m : Mem) (hs : List Head) (h : Head) → allValid c m hs h ≡ true → Each (λ s. isValid hs (s .to) ≡ true) (entriesBy c m (h .at))
 unfolding allValid
-valid-entries m hs h e = go (usedSlots m (h .at)) (all-each (λ s. isValid hs (m s)) (usedSlots m (h .at)) e)
+valid-entries c m hs h e = go (slotsBy c m (h .at)) (all-each (λ s. isValid hs (targetAt m s)) (slotsBy c m (h .at)) e)
   where
-    go : (sl : List ℕ) → Each (λ s. isValid hs (m s) ≡ true) sl → Each (λ s. isValid hs (s .to) ≡ true) (map (entry m) sl)
+    go : (sl : List ℕ) → Each (λ s. isValid hs (targetAt m s) ≡ true) sl → Each (λ s. isValid hs (s .to) ≡ true) (map (entry m) sl)
     go [] f = tt
     go (s ∷ sl) f = (f .0, go sl (f .1))
 
-pub entries-valid : (m : Mem) (hs : List Head) (h : Head) → Each (λ s. isValid hs (s .to) ≡ true) (entries m (h .at)) → allValid m hs h ≡ true
+pub entries-valid : (c : Choice) (m : Mem) (hs : List Head) (h : Head) → Each (λ s. isValid hs (s .to) ≡ true) (entriesBy c m (h .at)) → allValid c m hs h ≡ true
 unfolding allValid all
-entries-valid m hs h e = go (usedSlots m (h .at)) e
+entries-valid c m hs h e = go (slotsBy c m (h .at)) e
   where
-    go : (sl : List ℕ) → Each (λ s. isValid hs (s .to) ≡ true) (map (entry m) sl) → all (λ s. isValid hs (m s)) sl ≡ true
+    go : (sl : List ℕ) → Each (λ s. isValid hs (s .to) ≡ true) (map (entry m) sl) → all (λ s. isValid hs (targetAt m s)) sl ≡ true
     go [] f = refl
     go (s ∷ sl) f = rw (f .0) (go sl (f .1))
 

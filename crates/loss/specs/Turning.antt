@@ -8,15 +8,15 @@ use native.Mathlib.Omega.{arith}
 use Rattle.rules.specs.Lists.{any, Each}
 use Rattle.rules.specs.Words.{Mem, Store, upd}
 use Rattle.rules.specs.Pages.{staticAt, staticEnd}
-use Rattle.rules.specs.Clumps.{Head, stateAt, isFree, isPending, slots, entries, FREEING}
+use Rattle.rules.specs.Clumps.{Head, stateAt, isFree, isPending, slots, due, entriesBy, FREEING}
 use Rattle.rules.specs.Sound.{isEven, lies, holdsWord, isValid, allValid, listBad}
 use Rattle.laws.specs.Searches.{each-left, each-right, each-map}
+use Rattle.laws.specs.Choices.{chooses-due}
 use Rattle.laws.specs.Headers.{entries-same}
 use Rattle.laws.specs.Stored.{withState}
 use Rattle.loss.specs.Held.{Held, Idle, Pends}
 use Rattle.loss.specs.Fates.{Kept, isKept, fates-none, Beyond, Rests}
 use Rattle.loss.specs.Parts.{front-slots, held-state, fates-state, state-word, each-other}
-use Rattle.loss.specs.Carrying.{busy-good}
 use Rattle.loss.specs.Targets.{valid-entries, entries-valid}
 
 module _ (n : ℕ) (D : ℕ → Type 0) (k : List Kept) (w m : Mem) (p : List Head) (h : Head) (q : List Head) (s : ℕ) (f : Rests n D k w m (p ++ (h ∷ q))) where
@@ -56,19 +56,21 @@ module _ (n : ℕ) (m : Mem) (p : List Head) (h : Head) (q : List Head) (s : ℕ
       → s ≤ FREEING
       → isPending (withState h s) ≡ true
       → isFree (withState h s) ≡ isFree h
-      → allValid m (p ++ (h ∷ q)) h ≡ true
+      → listBad n (upd m (stateAt (h .at)) s) (withState h s) ≡ false
+      → allValid (due (withState h s)) m (p ++ (h ∷ q)) h ≡ true
       → Pends n (upd m (stateAt (h .at)) s) p (withState h s) q
-  begins f r l i e v =
+  begins f r l i e b v =
       let x = upd m (stateAt (h .at)) s in
-      let c = entries-same m x (slots (h .at)) (front-slots m (h .at) (stateAt (h .at)) s (omega arith)) in
+      let t = due (withState h s) in
+      let c = entries-same t (chooses-due (withState h s)) m x (slots (h .at)) (front-slots m (h .at) (stateAt (h .at)) s (omega arith)) in
       let valid : (hs : List Head) → Store → Type 0 = (λ hs z. isValid hs (z .to) ≡ true) in
       record {
-        held = held-state n m p h q s f l (busy-good n x (withState h s) i);
+        held = held-state n m p h q s f l b;
         below = each-left Idle p (h ∷ q) r;
         pending = i;
         above = each-right Idle p (h ∷ q) r .1;
         valid =
-            entries-valid x (p ++ (withState h s ∷ q)) (withState h s)
+            entries-valid t x (p ++ (withState h s ∷ q)) (withState h s)
             (subst (Each (valid (p ++ (withState h s ∷ q)))) (sym c)
-            (each-map (valid (p ++ (h ∷ q))) (valid (p ++ (withState h s ∷ q))) (entries m (h .at)) (λ z y. valid-live (z .to) e ∙ y) (valid-entries m (p ++ (h ∷ q)) h v)));
+            (each-map (valid (p ++ (h ∷ q))) (valid (p ++ (withState h s ∷ q))) (entriesBy t m (h .at)) (λ z y. valid-live (z .to) e ∙ y) (valid-entries t m (p ++ (h ∷ q)) h v)));
       }

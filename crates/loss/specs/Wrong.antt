@@ -1,4 +1,4 @@
--- 01, "Plausible builds that are wrong", and three more: each order of stores that the laws refuse, on a small pool, cut where it hurts,
+-- 01, "Plausible builds that are wrong", and five more, two of them W4's: each order of stores that the laws refuse, on a small pool, cut where it hurts,
 -- and what recovery then answers and leaves. So the laws are not about one order by chance: these orders are wrong. One table, proved by
 -- computing. The numbers are worked out by hand from the paper's rules. Assumes nothing.
 use Prim.Native.Nat.{ℕ}
@@ -8,11 +8,13 @@ use lib.ListN.{take}
 use Rattle.rules.specs.declared.Request.the-variants.{Recover}
 use Rattle.rules.specs.Lists.{seek}
 use Rattle.rules.specs.Words.{Store, store, after}
-use Rattle.rules.specs.Clumps.{Head, head, stateAt, slots, valueAt, usedSlots, entries, isPending, FREE, RESERVED, ACTIVATING, ACTIVE, walk}
+use Rattle.rules.specs.Clumps.{Head, head, stateAt, slots, valueAt, used, marked, unmarked, slotsBy, entriesBy, isPending, FREE, RESERVED, ACTIVATING, ACTIVE, FREEING, walk}
 use Rattle.rules.specs.Answers.{answerOf}
 use Rattle.rules.specs.Stores.{emptying, setState, finishing, releasing, released, runs, joining, finishFreeing}
 use Rattle.rules.specs.Requests.{verdict}
+use Rattle.rules.specs.Reading.{Listed, listing}
 use Rattle.rules.specs.Cases.{Pool, poolOf, shape, under, longest, caseH, everyRule}
+use Rattle.rules.specs.ReadingSamples.{plain, onFree, mixed}
 
 -- a pool after the first k stores of a list
 abbrev cutAt : ℕ → Pool → List Store → Pool
@@ -20,13 +22,13 @@ cutAt k p st = (p .0, after (p .1) (take k st))
 
 -- recovered: its answer, fault, clumps, the used entries of the first clump, and the words at 4096 and 4104
 abbrev Left : Type 0
-Left = (ℕ × ℕ) × List (ℕ × ℕ) × List Store × (ℕ × ℕ)
+Left = (ℕ × ℕ) × List (ℕ × ℕ) × List Listed × (ℕ × ℕ)
 
 abbrev recovered : Pool → Left
 recovered p =
     let r = answerOf longest (verdict (p .0) (p .1) Recover) in
     let x = under longest p Recover in
-    ((r .answer, r .fault), shape x, entries (x .1) 16384, (x .1 4096, x .1 4104))
+    ((r .answer, r .fault), shape x, listing used (x .1) 16384, (x .1 4096, x .1 4104))
 
 -- the first clump
 abbrev first : Pool → Head
@@ -36,11 +38,11 @@ first p = head (p .1) 16384
 abbrev lastFirst : List Store
 lastFirst =
     let m = caseH .1 in
-    setState (first caseH) ACTIVATING ∷ (entries m 16384 ++ (emptying (reverse (usedSlots m 16384)) ++ (setState (first caseH) ACTIVE ∷ [])))
+    setState (first caseH) ACTIVATING ∷ (entriesBy unmarked m 16384 ++ (emptying (reverse (slotsBy unmarked m 16384)) ++ (setState (first caseH) ACTIVE ∷ [])))
 
 -- case H, ACTIVE before the list is empty
 abbrev activeFirst : List Store
-activeFirst = let m = caseH .1 in setState (first caseH) ACTIVATING ∷ (entries m 16384 ++ (setState (first caseH) ACTIVE ∷ emptying (usedSlots m 16384)))
+activeFirst = let m = caseH .1 in setState (first caseH) ACTIVATING ∷ (entriesBy unmarked m 16384 ++ (setState (first caseH) ACTIVE ∷ emptying (slotsBy unmarked m 16384)))
 
 -- an ACTIVATING clump with a target in the body of a RESERVED one, which is released first
 abbrev linked : Pool
@@ -78,25 +80,38 @@ abbrev paired : Pool
 paired = poolOf ((128, 3) ∷ []) (store 16400 4096 ∷ store 16408 7 ∷ store 16416 4104 ∷ store 16424 9 ∷ store 4096 1 ∷ store 4104 1 ∷ [])
 
 abbrev noFreeing : List Store
-noFreeing = setState (first paired) ACTIVE ∷ finishFreeing (paired .1) (first paired)
+noFreeing = setState (first paired) ACTIVE ∷ finishFreeing used (paired .1) (first paired)
+
+-- W4, free of a RESERVED clump that lists (4096, 7), unmarked, and (4104, 9), marked: FREEING before the unmarked one is emptied
+abbrev freeingFirst : List Store
+freeingFirst = let m = mixed .1 in setState (first mixed) FREEING ∷ (emptying (slotsBy unmarked m 16384) ++ finishFreeing marked m (first mixed))
+
+-- and the unmarked one emptied after the assignments
+abbrev emptiedLast : List Store
+emptiedLast =
+    let m = mixed .1 in
+    setState (first mixed) FREEING ∷ (entriesBy marked m 16384 ++ (emptying (slotsBy unmarked m 16384) ++ (setState (first mixed) FREE ∷ [])))
 
 abbrev pub Wrong : Type 0
 Wrong =
     -- "in H a cut leaves (4096, 7) and recovery puts 7 back": 4096 would have to hold 9
     (recovered (cutAt 4 caseH lastFirst) ≡ ((0, 0), ((256, 3) ∷ []), [], (7, 0)))
     -- "its leftovers then act at the next free": the list would have to be empty
-    × (recovered (cutAt 4 caseH activeFirst) ≡ ((0, 0), ((256, 3) ∷ []), (store 4096 7 ∷ store 4096 9 ∷ []), (9, 0)))
+    × (recovered (cutAt 4 caseH activeFirst) ≡ ((0, 0), ((256, 3) ∷ []), (plain 16400 4096 7 ∷ plain 16416 4096 9 ∷ []), (9, 0)))
     -- "a pending target would lie in a FREE body": fault 5
-    × (recovered (cutAt 1 linked reservedFirst) ≡ ((2, 5), ((128, 2) ∷ (128, 0) ∷ []), (store 16576 5 ∷ []), (0, 0)))
+    × (recovered (cutAt 1 linked reservedFirst) ≡ ((2, 5), ((128, 2) ∷ (128, 0) ∷ []), (plain 16400 16576 5 ∷ []), (0, 0)))
     -- "the smaller nbytes before the rest's header": the walk meets a clump of 0 bytes, fault 1
     × (recovered (cutAt 1 wide smallerFirst) .0 ≡ (2, 1))
     -- a RESERVED clump with a list that nobody made: fault 3
-    × (recovered (cutAt 1 stale notCleared) ≡ ((2, 3), ((128, 1) ∷ []), (store 3 0 ∷ []), (0, 0)))
+    × (recovered (cutAt 1 stale notCleared) ≡ ((2, 3), ((128, 1) ∷ []), (onFree 16400 2 0 ∷ []), (0, 0)))
     -- a used entry with an old value: the list would have to be empty
-    × (recovered (cutAt 1 live targetFirst) ≡ ((0, 0), ((128, 3) ∷ []), (store 4096 2 ∷ []), (0, 0)))
+    × (recovered (cutAt 1 live targetFirst) ≡ ((0, 0), ((128, 3) ∷ []), (plain 16400 4096 2 ∷ []), (0, 0)))
     -- one word of two assigned, and the clump kept: all would have to be assigned and the clump freed
-    × (recovered (cutAt 2 paired noFreeing) ≡ ((0, 0), ((128, 3) ∷ []), (store 4096 7 ∷ store 4104 9 ∷ []), (7, 1)))
+    × (recovered (cutAt 2 paired noFreeing) ≡ ((0, 0), ((128, 3) ∷ []), (plain 16400 4096 7 ∷ plain 16416 4104 9 ∷ []), (7, 1)))
+    -- W4: with the FREEING store made, an unmarked entry that is left is carried out by recovery: 4096 would have to keep its 0
+    × (recovered (cutAt 1 mixed freeingFirst) ≡ ((0, 0), ((128, 0) ∷ []), (plain 16400 4096 7 ∷ onFree 16416 4104 9 ∷ []), (7, 9)))
+    × (recovered (cutAt 2 mixed emptiedLast) ≡ ((0, 0), ((128, 0) ∷ []), (plain 16400 4096 7 ∷ onFree 16416 4104 9 ∷ []), (7, 9)))
 
 pub wrong : Wrong
 unfolding everyRule
-wrong = (refl, refl, refl, refl, refl, refl, refl)
+wrong = (refl, refl, refl, refl, refl, refl, refl, refl, refl)

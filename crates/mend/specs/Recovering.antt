@@ -13,7 +13,7 @@ use Rattle.rules.specs.declared.Request.the-variants.{Recover}
 use Rattle.rules.specs.Lists.{seek}
 use Rattle.rules.specs.Words.{Image, Mem, Store, mem, store}
 use Rattle.rules.specs.Pages.{clumpsAt}
-use Rattle.rules.specs.Clumps.{Head, head, isPending, offsetOf, stateAt, ACTIVATING, ACTIVE, FREE}
+use Rattle.rules.specs.Clumps.{Head, head, isPending, offsetOf, stateAt, ACTIVATING, ACTIVE, FREE, unmarked}
 use Rattle.rules.specs.Sound.{targetFault}
 use Rattle.rules.specs.Answers.{granted, ifSound}
 use Rattle.rules.specs.Stores.{finishActivating, finishFreeing, finishing, releasing, released, runs, joining, recoverStores}
@@ -25,9 +25,10 @@ use Rattle.laws.specs.Walks.{walk-reads, walk-is, no-faults}
 use Rattle.laws.specs.Pools.{Sound, pool-tiles}
 use Rattle.laws.specs.Walking.{Inside}
 use Rattle.laws.specs.Mending.{targets-valid, settle, freed, map-released, tiles-settle, tiles-freed, finish-reads, release-reads, releasing-settle}
-use Rattle.page.specs.Forms.{listAt, InImage}
-use Rattle.walk.specs.Scans.{offset-none, offset-some, offset-inside, list-valid, list-in}
-use Rattle.steps.specs.Lists.{assignsOf, emptiesOf, assigns-are, empties-are}
+use Rattle.laws.specs.Choices.{chooses-unmarked}
+use Rattle.page.specs.Forms.{listAt, onlyIn, dueIn, InImage}
+use Rattle.walk.specs.Scans.{offset-none, offset-some, offset-inside, due-valid, list-in}
+use Rattle.steps.specs.Lists.{assignsOf, emptiesOf, assigns-are, assigns-all, empties-are}
 use Rattle.steps.specs.Acts.{acts-does, acts-ran}
 
 -- the stores of the first part, by the clump that was found and the list that was read
@@ -35,14 +36,19 @@ module _ (m : Mem) (hs : List Head) where
   pub finish-none : seek isPending hs ≡ none → finishing m (seek isPending hs) ≡ []
   finish-none e = rw e
 
-  module _ (h s : ℕ) (l : List (List ℕ)) (e : seek isPending hs ≡ some (head m h)) (is : s ≡ m (stateAt h)) (list : l ≡ listAt m h) where
-    pub finish-activates : s ≡ ACTIVATING → finishing m (seek isPending hs) ≡ assignsOf l ++ (emptiesOf (h + 16) l ++ (store (stateAt h) ACTIVE ∷ []))
+  -- the entries k that are due, of the list l
+  module _ (h s : ℕ) (l k : List (List ℕ)) (e : seek isPending hs ≡ some (head m h)) (is : s ≡ m (stateAt h)) (list : l ≡ listAt m h) (due : k ≡ dueIn s l) where
+    pub finish-activates : s ≡ ACTIVATING → finishing m (seek isPending hs) ≡ assignsOf k ++ (emptiesOf (h + 16) k ++ (store (stateAt h) ACTIVE ∷ []))
     unfolding finishActivating
-    finish-activates z = rw (e, eq-eqb (m (stateAt h)) ACTIVATING (sym is ∙ z), list, assigns-are m h, empties-are m h)
+    finish-activates z =
+        let d : k ≡ onlyIn unmarked (listAt m h) = due ∙ rw (eq-eqb s ACTIVATING z, list) in
+        rw (e, eq-eqb (m (stateAt h)) ACTIVATING (sym is ∙ z), d, assigns-are unmarked chooses-unmarked m h, empties-are unmarked chooses-unmarked m h)
 
-    pub finish-frees : (s ≡ ACTIVATING → ⊥) → finishing m (seek isPending hs) ≡ assignsOf l ++ (store (stateAt h) FREE ∷ [])
+    pub finish-frees : (s ≡ ACTIVATING → ⊥) → finishing m (seek isPending hs) ≡ assignsOf k ++ (store (stateAt h) FREE ∷ [])
     unfolding finishFreeing
-    finish-frees z = rw (e, ne-eqb (m (stateAt h)) ACTIVATING (λ y. z (is ∙ y)), list, assigns-are m h)
+    finish-frees z =
+        let d : k ≡ listAt m h = due ∙ rw (ne-eqb s ACTIVATING z, list) in
+        rw (e, ne-eqb (m (stateAt h)) ACTIVATING (λ y. z (is ∙ y)), d, assigns-all m h)
 
 -- the unfinished clump, by its place; 0 is none
 module _ (img : Image) (h : ℕ) (tiled : Tiled img) (e : h ≡ offsetOf 0 (seek isPending (clumpsOf img))) where
@@ -56,8 +62,16 @@ module _ (img : Image) (h : ℕ) (tiled : Tiled img) (e : h ≡ offsetOf 0 (seek
     pub pending-inside : Inside (length img) (mem img) h
     pending-inside = offset-inside (length img) (mem img) isPending tiled 0 h e f
 
-    pub pending-targets : targetFault (mem img) (clumpsOf img) ≡ none → (l : List (List ℕ)) → l ≡ listAt (mem img) h → InImage (length img) l
-    pending-targets t l g = list-in (length img) (mem img) l tiled (list-valid (mem img) (clumpsOf img) h l g ∙ targets-valid (mem img) (clumpsOf img) (head (mem img) h) pending-found t)
+    pub pending-targets :
+        targetFault (mem img) (clumpsOf img) ≡ none
+        → (s : ℕ) (l k : List (List ℕ))
+        → s ≡ mem img (stateAt h)
+        → l ≡ listAt (mem img) h
+        → k ≡ dueIn s l
+        → InImage (length img) k
+    pending-targets t s l k is list due =
+        list-in (length img) (mem img) k tiled
+        (due-valid (mem img) (clumpsOf img) h s l k is list due ∙ targets-valid (mem img) (clumpsOf img) (head (mem img) h) pending-found t)
 
 module _ (img : Image) (s : Sound (length img) (mem img)) where
   tiled : Tiled img

@@ -19,6 +19,7 @@ ghost use Rattle.page.specs.Forms.{headOf};
 ghost use Rattle.mend.specs.Passes.{OpenRun, openStore, openNext};
 use page::CLUMPS_AT;
 use page::clump::Clump;
+use page::entry;
 use rules::Answer;
 use word::Power;
 
@@ -35,10 +36,11 @@ fn finish_pending(img: &mut [u8], p: Power, h: usize) -> Power
     }
     let c = Clump::read(img, h);
     let l = Clump::list(img, h);
+    let due = entry::due(c.state, l);
     if c.state == Clump::ACTIVATING {
-        return steps::finish_activating(img, p, h, l);
+        return steps::finish_activating(img, p, h, due);
     }
-    steps::finish_freeing(img, p, h, l)
+    steps::finish_freeing(img, p, h, due)
 }
 
 // RESERVED to FREE, and no store to a clump in any other state.

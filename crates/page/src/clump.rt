@@ -39,7 +39,7 @@ impl Clump {
         }
     }
 
-    // The three entries of the on-list, each a target and a value.
+    // The three entries of the on-list, each a target word as it is stored, and a value.
     pub fn list(img: &[u8], at: usize) -> [[u64; 2]; 3]
         requires { ⌜ at + headerBytes ≤ length (now img) ⌝ }
         requires { ⌜ at % wordBytes ≡ 0 ⌝ }

@@ -1,5 +1,5 @@
 // The page test: length, signature, total size and zero padding. Asks nothing of the image.
-// `clump` has the header of a clump.
+// `clump` has the header of a clump, `entry` the entries of its list.
 ghost use mathlib.Core.Path.{_≡_};
 ghost use Prim.Native.Nat.{_≤_};
 ghost use lib.ListN.{length};
@@ -7,6 +7,7 @@ ghost use Rattle.rules.specs.Words.{mem, allZero};
 ghost use Rattle.rules.specs.Pages.{clumpsAt, paddingAt, paddingWords, rightLength, isPool};
 
 pub mod clump;
+pub mod entry;
 
 pub const STATIC_AT: u64 = 4096;
 

@@ -1,51 +1,55 @@
--- The stores of free as the code makes them, that they are the rules', and a law for each way out of free.
--- Assumes nothing.
+-- The stores of free as the code makes them, that they are the rules', and a law for each way out of free: by the state and whether an entry
+-- is marked, and by where the clumps beside stand. Assumes nothing.
 use Prim.Native.Nat.{ℕ, _+_, _%_, _<_, _≤_}
 use mathlib.Core.Path.{_≡_, refl, sym, ap, ap₂, _∙_}
-use mathlib.Core.Bool.{Bool, true, false, cond}
+use mathlib.Core.Bool.{Bool, true, false, cond, not, _||_}
 use mathlib.Core.Option.{Option, some, none}
 use mathlib.Core.List.{List, [], _∷_, _++_}
 use native.Mathlib.Omega.{arith}
-use lib.Dec.{eqb, ltb}
+use lib.Dec.{eqb}
 use lib.ListN.{length}
-use borrow.Author.Tests.{eq-eqb, ne-eqb, eqb-true, eqb-false, lt-ltb, le-ltb, ltb-true}
+use borrow.Author.Tests.{ne-eqb, eqb-true}
+use Rattle.rules.specs.Lists.{any}
 use Rattle.rules.specs.Words.{Image, Mem, Store, mem, store, wordBytes, wordValues}
-use Rattle.rules.specs.Clumps.{Head, head, endOf, isWaiting, hasState, stateAt, headerBytes, RESERVED, ACTIVATING, ACTIVE, FREEING, FREE, nextOf, beforeOf, offsetOf}
+use Rattle.rules.specs.Clumps.{Head, head, endOf, isWaiting, hasState, stateAt, headerBytes, ACTIVE, FREEING, FREE, used, marked, unmarked, freed, nextOf, beforeOf, offsetOf}
 use Rattle.rules.specs.Sound.{allValid}
 use Rattle.rules.specs.Answers.{granted, refuse, wrongState, badTarget}
-use Rattle.rules.specs.Stores.{finishActivating, finishFreeing, activateStores, dropStores, ifFree, freeAfter, freeBefore, joinBefore, joinBoth, freeStores}
-use Rattle.rules.specs.Requests.{activate, mayDrop, free}
+use Rattle.rules.specs.Stores.{finishFreeing, hasMarked, dropStores, ifFree, freeAfter, freeBefore, joinBefore, joinBoth, freeStores}
+use Rattle.rules.specs.Requests.{free}
 use Rattle.rules.specs.Reading.{clumpsOf, Tiled}
 use Rattle.laws.specs.Searches.{seek-split}
 use Rattle.laws.specs.Walking.{seek-placed}
 use Rattle.laws.specs.Neighbours.{if-free, clumpAt, stands-header, next-at, before-at}
 use Rattle.laws.specs.Lying.{Lies, placed-lies}
-use Rattle.page.specs.Forms.{listAt}
+use Rattle.laws.specs.Choices.{chooses-marked, chooses-unmarked, chooses-freed}
+use Rattle.page.specs.Forms.{listAt, onlyIn, reachOf}
+use Rattle.page.specs.Slots.{only-word, only-used}
 use Rattle.page.specs.declared.clump.Clump.{Clump}
 use Rattle.walk.specs.Forms.{listValid}
 use Rattle.walk.specs.Scans.{Finds, list-valid}
+use Rattle.walk.specs.Beside.{sizeOf, freeBytes, free-stands}
 use Rattle.rules.specs.declared.Answer.{Answer}
 use Rattle.word.specs.declared.Power.{Power}
 use Rattle.word.specs.Runs.{full, Ran, told, ran-then, ran-as}
 use Rattle.steps.specs.Acts.{Acts, acts-ran}
-use Rattle.steps.specs.Lists.{assignsOf, emptiesOf, assigns-are, empties-are}
+use Rattle.steps.specs.Lists.{assignsOf, emptiesOf, assigns-are, assigns-all, empties-are}
+
+-- the rules' `freed` of a list that was read
+abbrev pub freedIn : ℕ → List (List ℕ) → List (List ℕ)
+freedIn state l = cond (eqb state ACTIVE) l (onlyIn marked l)
 
 -- the stores to the clump itself, by its state and the list that was read
+abbrev pub carryOf : ℕ → List (List ℕ) → List Store
+carryOf h l = store (stateAt h) FREEING ∷ (assignsOf l ++ (store (stateAt h) FREE ∷ []))
+
 abbrev pub dropOf : ℕ → ℕ → List (List ℕ) → List Store
-dropOf h state l = cond (eqb state ACTIVE) (store (stateAt h) FREEING ∷ (assignsOf l ++ (store (stateAt h) FREE ∷ []))) (store (stateAt h) FREE ∷ [])
+dropOf h state l =
+    cond (eqb state ACTIVE) (carryOf h l)
+    (cond (eqb (reachOf (onlyIn marked l)) 0) (store (stateAt h) FREE ∷ []) (emptiesOf (h + 16) (onlyIn unmarked l) ++ carryOf h (onlyIn marked l)))
 
 -- one store where there is a clump to join, which has bytes
 abbrev pub storeIf : ℕ → ℕ → ℕ → List Store
 storeIf bytes at w = cond (eqb bytes 0) [] (store at w ∷ [])
-
--- nbytes of a clump, 0 where there is none
-abbrev pub sizeOf : Option Head → ℕ
-sizeOf none = 0
-sizeOf (some k) = k .nbytes
-
--- nbytes of the clump that stands at an offset, if it is FREE
-abbrev pub freeBytes : ℕ → Mem → ℕ → ℕ
-freeBytes n m at = sizeOf (ifFree (clumpAt n m at))
 
 -- the clump c at h, which has its body at the offset asked about, as the code has it before it is freed
 pub record Releasing (img : Image) (offset h below : ℕ) (c : Clump) (l : List (List ℕ)) : Type 0 where
@@ -55,7 +59,7 @@ pub record Releasing (img : Image) (offset h below : ℕ) (c : Clump) (l : List 
   pub is : c .state ≡ mem img (stateAt h)
   pub list : l ≡ listAt (mem img) h
   pub small : length img < wordValues
-  pub valid : c .state ≡ ACTIVE → listValid (clumpsOf img) l ≡ true
+  pub valid : listValid (clumpsOf img) (freedIn (c .state) l) ≡ true
 
 -- free, a law for each way out
 module _ (m : Mem) (hs : List Head) (o : ℕ) (h : Head) where
@@ -63,17 +67,57 @@ module _ (m : Mem) (hs : List Head) (o : ℕ) (h : Head) where
   unfolding free
   free-state e = rw e
 
-  pub free-bad : isWaiting h ≡ true → mayDrop m hs h ≡ false → free m hs o h ≡ refuse badTarget
+  pub free-bad : isWaiting h ≡ true → allValid (freed h) m hs h ≡ false → free m hs o h ≡ refuse badTarget
   unfolding free
   free-bad e f = rw (e, f)
 
-  pub free-done : isWaiting h ≡ true → mayDrop m hs h ≡ true → free m hs o h ≡ granted o (freeStores m hs h)
+  pub free-done : isWaiting h ≡ true → allValid (freed h) m hs h ≡ true → free m hs o h ≡ granted o (freeStores m hs h)
   unfolding free
   free-done e f = rw (e, f)
 
--- whether a list may be dropped, by the list that was read
-pub may-drop : (m : Mem) (hs : List Head) (h state : ℕ) (l : List (List ℕ)) → state ≡ m (stateAt h) → l ≡ listAt m h → cond (eqb state ACTIVE) (listValid hs l) true ≡ mayDrop m hs (head m h)
-may-drop m hs h state l e f = rw (e, list-valid m hs h l f)
+-- whether a list may be dropped, by the state and the list that were read
+pub may-drop :
+    (m : Mem) (hs : List Head) (h state : ℕ) (l : List (List ℕ)) → state ≡ m (stateAt h) → l ≡ listAt m h → listValid hs (freedIn state l) ≡ allValid (freed (head m h)) m hs (head m h)
+may-drop m hs h state l e f =
+    list-valid (freed (head m h)) (chooses-freed (head m h)) m hs h _ (ap₂ (λ (s : ℕ) (k : List (List ℕ)). freedIn s k) e f ∙ go (hasState ACTIVE (head m h)))
+  where
+    go : (b : Bool) → cond b (listAt m h) (onlyIn marked (listAt m h)) ≡ onlyIn (cond b used marked) (listAt m h)
+    go true = sym (only-used m h)
+    go false = refl
+
+-- whether an entry is marked, by how far the marked ones reach
+marked-any : (m : Mem) (h : Head) → eqb (reachOf (onlyIn marked (listAt m (h .at)))) 0 ≡ not (hasMarked m h)
+unfolding any
+marked-any m h =
+    let w = only-word marked chooses-marked in
+    rw (w (m (h .at + 16)), w (m (h .at + 32)), w (m (h .at + 48))) (go (marked (m (h .at + 16))) (marked (m (h .at + 32))) (marked (m (h .at + 48))))
+  where
+    go : (t u v : Bool) → eqb (cond (not v) (cond (not u) (cond (not t) 0 1) 2) 3) 0 ≡ not (t || (u || (v || false)))
+    go true true true = refl
+    go true true false = refl
+    go true false true = refl
+    go true false false = refl
+    go false true true = refl
+    go false true false = refl
+    go false false true = refl
+    go false false false = refl
+
+-- the stores to the clump itself are the rules'
+drops-as : (m : Mem) (h : Head) → dropOf (h .at) (h .state) (listAt m (h .at)) ≡ dropStores m h
+unfolding dropStores finishFreeing
+drops-as m h =
+    rw (
+      marked-any m h,
+      assigns-all m (h .at),
+      assigns-are marked chooses-marked m (h .at),
+      empties-are unmarked chooses-unmarked m (h .at),
+    )
+    (go (hasState ACTIVE h) (hasMarked m h) _ _ _)
+  where
+    go : (a b : Bool) (x y z : List Store) → cond a x (cond (not b) y z) ≡ cond a x (cond b z y)
+    go true b x y z = refl
+    go false true x y z = refl
+    go false false x y z = refl
 
 -- the clumps beside, joined, by their bytes: where there is none there are 0, and every clump has some
 before-are : (y : Option Head) (at w : ℕ) → ((k : Head) → y ≡ some k → (k .at ≡ at) × (0 < k .nbytes)) → joinBefore y w ≡ storeIf (sizeOf y) at (sizeOf y + w)
@@ -95,35 +139,6 @@ joins-are (some k) y h at f g =
 size-room : (x : Option Head) (a b : ℕ) → a ≤ b → ((k : Head) → x ≡ some k → a + k .nbytes ≤ b) → a + sizeOf x ≤ b
 size-room none a b l f = omega arith
 size-room (some k) a b l f = f k refl
-
--- the bytes at the two marks, and those of a clump that stands at an offset, by its state
-module _ (n : ℕ) (m : Mem) (a : ℕ) where
-  pub bytes-below : a ≡ 0 → 0 ≡ freeBytes n m a
-  bytes-below e = rw (eq-eqb a 0 e)
-
-  pub bytes-end : (a ≡ 0 → ⊥) → n ≤ a → 0 ≡ freeBytes n m a
-  bytes-end z l = rw (ne-eqb a 0 z, le-ltb a n l)
-
-  pub bytes-live : (a ≡ 0 → ⊥) → a < n → (m (stateAt a) ≡ FREE → ⊥) → 0 ≡ freeBytes n m a
-  bytes-live z l d = rw (ne-eqb a 0 z, lt-ltb a n l, ne-eqb (m (stateAt a)) FREE d)
-
-  pub bytes-free : (a ≡ 0 → ⊥) → a < n → m (stateAt a) ≡ FREE → m a ≡ freeBytes n m a
-  bytes-free z l e = rw (ne-eqb a 0 z, lt-ltb a n l, eq-eqb (m (stateAt a)) FREE e)
-
--- and where there are bytes one stands
-free-stands : (n : ℕ) (m : Mem) (a : ℕ) → (freeBytes n m a ≡ 0 → ⊥) → (a ≡ 0 → ⊥) × (a < n)
-free-stands n m a f = go (eqb a 0) refl (ltb a n) refl f
-  where
-    go :
-        (b : Bool)
-        → eqb a 0 ≡ b
-        → (d : Bool)
-        → ltb a n ≡ d
-        → (sizeOf (ifFree (cond b none (cond d (some (head m a)) none))) ≡ 0 → ⊥)
-        → (a ≡ 0 → ⊥) × (a < n)
-    go true p d q f = absurd (f refl)
-    go false p true q f = (eqb-false a 0 p, ltb-true a n q)
-    go false p false q f = absurd (f refl)
 
 -- the clump c at h, which is freed: the next one is read at its end, the one before at `below`
 module _ {img : Image} {offset h below : ℕ} {c : Clump} {l : List (List ℕ)} (t : Releasing img offset h below c l) where
@@ -195,8 +210,7 @@ module _ {img : Image} {offset h below : ℕ} {c : Clump} {l : List (List ℕ)} 
   sum-room n k e f = omega (arith, next-room, below-room)
 
   drops-are : dropOf h (c .state) l ≡ dropStores (mem img) this
-  unfolding dropStores finishFreeing
-  drops-are = rw (t .is, t .list, assigns-are (mem img) h)
+  drops-are = rw (t .is, t .list) (drops-as (mem img) this)
 
   free-stores :
       dropOf h (c .state) l ++ (storeIf next h (c .nbytes + next) ++ storeIf under below (under + (c .nbytes + next)))
@@ -223,7 +237,3 @@ module _ {img : Image} {offset h below : ℕ} {c : Clump} {l : List (List ℕ)} 
       let e′ = e ∙ next-bytes in
       let f′ = f ∙ below-bytes in
       acts-ran {q = u} fuse offset (ran-as _ _ (sym free-stores) (ran-then (rw g at a) (ran-then (rw e′ at b) (rw (f′, e′) at d)))) i
-
--- an ACTIVE clump that may be dropped has a valid list
-pub drop-valid : (state : ℕ) (b : Bool) → cond (eqb state ACTIVE) b true ≡ true → state ≡ ACTIVE → b ≡ true
-drop-valid state b e f = rw (eq-eqb state ACTIVE f) at e

@@ -1,13 +1,11 @@
-// Free: the request that carries out the on-list of an ACTIVE clump and gives the clump back, joined to what is FREE beside it. It takes any
-// bytes, any numbers and any fuse.
+// Free: the request that carries out the on-list of an ACTIVE clump, or the marked entries of a RESERVED one, and gives the clump back, joined
+// to what is FREE beside it. It takes any bytes, any numbers and any fuse.
 ghost use mathlib.Core.Path.{_≡_};
-ghost use mathlib.Core.Bool.{cond, true};
 ghost use Prim.Native.Nat.{_+_, _%_, _≤_, _<_};
 ghost use lib.ListN.{length};
-ghost use lib.Dec.{eqb};
 ghost use Rattle.rules.specs.declared.Request.the-variants.{Free};
 ghost use Rattle.rules.specs.Words.{wordBytes, wordValues, mem};
-ghost use Rattle.rules.specs.Clumps.{head, headerBytes, ACTIVE};
+ghost use Rattle.rules.specs.Clumps.{head, headerBytes};
 ghost use Rattle.rules.specs.Answers.{granted};
 ghost use Rattle.rules.specs.Stores.{freeStores};
 ghost use Rattle.rules.specs.Requests.{free, Does};
@@ -17,39 +15,24 @@ ghost use Rattle.page.specs.Forms.{InImage};
 ghost use Rattle.walk.specs.Forms.{listValid};
 ghost use Rattle.walk.specs.Scans.{Finds};
 ghost use Rattle.steps.specs.Acts.{Acts};
-ghost use Rattle.release.specs.Releases.{dropOf, storeIf, freeBytes, Releasing};
+ghost use Rattle.release.specs.Releases.{freedIn, dropOf, storeIf, Releasing};
 use page::clump::Clump;
+use page::entry;
 use rules::Answer;
 use walk::Found;
 use word::Power;
 
-// Whether a clump in that state may be freed with that list: an ACTIVE one only where its targets are valid.
+// Whether a clump in that state may be freed with that list: the targets of the entries that free carries out must be valid, of an ACTIVE
+// clump all, of a RESERVED one those of the marked entries.
 fn may_drop(img: &[u8], state: u64, l: [[u64; 2]; 3]) -> bool
     requires { ⌜ Tiled (now img) ⌝ }
-    ensures { λ r. ⌜ r ≡ cond (eqb state ACTIVE) (listValid (clumpsOf (now (img .entry))) l) true ⌝ }
+    ensures { λ r. ⌜ r ≡ listValid (clumpsOf (now (img .entry))) (freedIn state l) ⌝ }
 {
     if state == Clump::ACTIVE {
         return walk::all_valid(img, l);
     }
-    true
-}
-
-// nbytes of the clump at an offset if it is FREE, else 0; 0 also where no clump stands: at 0, below the first, and behind the last.
-fn free_bytes(img: &[u8], at: usize) -> u64
-    requires { ⌜ ((at ≡ 0 → ⊥) → at < length (now img) → (at % wordBytes ≡ 0) × (at + headerBytes ≤ length (now img))) ⌝ }
-    ensures { λ r. ⌜ r ≡ freeBytes (length (now (img .entry))) (mem (now (img .entry))) at ⌝ }
-{
-    if at == 0 {
-        return 0;
-    }
-    if img.len() <= at {
-        return 0;
-    }
-    let c = Clump::read(img, at);
-    if c.state != Clump::FREE {
-        return 0;
-    }
-    c.nbytes
+    let marked = entry::marked(l);
+    walk::all_valid(img, marked)
 }
 
 // One store, if there is a clump to join.
@@ -64,19 +47,25 @@ fn store_if(img: &mut [u8], p: Power, bytes: u64, at: usize, w: u64) -> Power
     word::store(img, p, at, w)
 }
 
-// What free stores to the clump itself.
+// What free stores to the clump itself. The unmarked entries of a RESERVED clump were never due: they are emptied before it goes FREEING,
+// since a FREEING clump carries out whatever is used.
 fn drop_list(img: &mut [u8], p: Power, h: usize, state: u64, l: [[u64; 2]; 3]) -> Power
     requires { ⌜ h + headerBytes ≤ length (now img) ⌝ }
     requires { ⌜ h % wordBytes ≡ 0 ⌝ }
-    requires { ⌜ (state ≡ ACTIVE → InImage (length (now img)) l) ⌝ }
+    requires { ⌜ InImage (length (now img)) (freedIn state l) ⌝ }
     requires { ⌜ p .made + p .left < wordValues ⌝ }
     ensures { λ r. ⌜ Ran (now (img .entry)) p (dropOf h state l) (now (img .exit)) r ⌝ }
 {
+    let marked = entry::marked(l);
     if state == Clump::ACTIVE {
-        let p1 = word::store(img, p, h + 8, Clump::FREEING);
-        return steps::finish_freeing(img, p1, h, l);
+        return steps::carry_out(img, p, h, l);
     }
-    word::store(img, p, h + 8, Clump::FREE)
+    if entry::reach(marked) == 0 {
+        return word::store(img, p, h + 8, Clump::FREE);
+    }
+    let unmarked = entry::unmarked(l);
+    let p1 = steps::empty_used(img, p, h, unmarked);
+    steps::carry_out(img, p1, h, marked)
 }
 
 // The clump at h freed, and joined to the clumps beside it that are FREE: the next one, at its end, and the one below.
@@ -92,8 +81,8 @@ fn release(
     requires { ⌜ Releasing (now img) offset h below c l ⌝ }
     ensures { λ r. ⌜ Acts (now (img .entry)) (granted offset (freeStores (mem (now (img .entry))) (clumpsOf (now (img .entry))) (head (mem (now (img .entry))) h))) fuse (now (img .exit)) r ⌝ }
 {
-    let next = free_bytes(img, h + c.nbytes as usize);
-    let under = free_bytes(img, below);
+    let next = walk::free_bytes(img, h + c.nbytes as usize);
+    let under = walk::free_bytes(img, below);
     let both = c.nbytes + next;
     let all = under + both;
     let p = Power::new(fuse);

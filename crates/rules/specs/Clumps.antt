@@ -1,8 +1,8 @@
--- Clumps: the header, the on-list, and the walk from clump to clump (01, "Clump header, 64 bytes" and "A sound pool").
--- Assumes nothing.
-use Prim.Native.Nat.{ℕ, zero, suc, _+_, _%_, _≤_}
+-- Clumps: the header, the on-list, and the walk from clump to clump (01, "Clump header, 64 bytes" and "A sound pool"); the mark of an
+-- onfree entry (02, W4). Assumes nothing.
+use Prim.Native.Nat.{ℕ, zero, suc, _+_, _-_, _%_, _≤_}
 use mathlib.Core.Path.{_≡_}
-use mathlib.Core.Bool.{Bool, true, false, not, _||_}
+use mathlib.Core.Bool.{Bool, true, false, cond, not, _&&_, _||_}
 use mathlib.Core.Option.{Option, some, none}
 use mathlib.Core.List.{List, [], _∷_, map}
 use lib.Dec.{eqb, ltb}
@@ -82,28 +82,72 @@ slots a = listStart a ∷ (a + 32) ∷ (a + 48) ∷ []
 abbrev pub valueAt : ℕ → ℕ
 valueAt s = s + wordBytes
 
--- "target 0 means empty"
+-- "target 0 means empty"; W4: "only a stored 0 is empty"
 abbrev pub isEmpty : Mem → ℕ → Bool
 isEmpty m s = eqb (m s) 0
 
-abbrev pub isUsed : Mem → ℕ → Bool
-isUsed m s = not (isEmpty m s)
+-- a test of the target word that is stored, by which entries are chosen
+abbrev pub Choice : Type 0
+Choice = ℕ → Bool
 
--- where the used entries of the clump at a stand, first to last
-abbrev pub usedSlots : Mem → ℕ → List ℕ
-usedSlots m a = those (isUsed m) (slots a)
+abbrev pub used : Choice
+used t = not (eqb t 0)
+
+abbrev pub isUsed : Mem → ℕ → Bool
+isUsed m s = used (m s)
+
+-- W4: "Bit 0 of a stored target marks an onfree entry"
+abbrev pub mark : ℕ
+mark = 1
+
+abbrev pub bitValues : ℕ
+bitValues = 2
+
+unfoldable pub marked : Choice
+marked t = eqb (t % bitValues) mark
+
+unfoldable pub unmarked : Choice
+unmarked t = used t && not (marked t)
+
+-- no entry at all
+abbrev pub nothing : Choice
+nothing t = false
+
+-- "the target is the number without it", and the number with it
+unfoldable pub targetOf : ℕ → ℕ
+targetOf t = t - t % bitValues
+
+abbrev pub withMark : ℕ → ℕ
+withMark t = t + mark
+
+-- where the chosen entries of the clump at a stand, first to last
+abbrev pub slotsBy : Choice → Mem → ℕ → List ℕ
+slotsBy c m a = those (λ s. c (m s)) (slots a)
 
 -- the target of the entry that stands at s
 abbrev pub targetAt : Mem → ℕ → ℕ
-targetAt m s = m s
+targetAt m s = targetOf (m s)
 
 -- the entry that stands at s, as the store that it asks for
 abbrev pub entry : Mem → ℕ → Store
 entry m s = store (targetAt m s) (m (valueAt s))
 
--- the used entries of the clump at a, in list order
-abbrev pub entries : Mem → ℕ → List Store
-entries m a = map (entry m) (usedSlots m a)
+-- the chosen entries of the clump at a, in list order
+abbrev pub entriesBy : Choice → Mem → ℕ → List Store
+entriesBy c m a = map (entry m) (slotsBy c m a)
+
+-- W4, the entries that are carried out in an unfinished clump: "Activate, and recovery of an ACTIVATING clump, .. the unmarked entries";
+-- "An unmarked entry of an ACTIVE or FREEING clump is an old onfree and counts as one."
+abbrev pub due : Head → Choice
+due h = cond (hasState ACTIVATING h) unmarked used
+
+-- the entries that wait: those of a RESERVED or ACTIVE clump, and W4: of an ACTIVATING one "marked ones wait"
+abbrev pub waiting : Head → Choice
+waiting h = cond (isWaiting h) used (cond (hasState ACTIVATING h) marked nothing)
+
+-- the entries that free carries out: W4: of a RESERVED clump the marked ones
+abbrev pub freed : Head → Choice
+freed h = cond (hasState ACTIVE h) used marked
 
 -- "The walk starts at 16384; each clump is followed by the one at its offset plus nbytes." It ends at n, the image's length.
 -- A clump without fault has a byte or more, so that n steps last wherever no fault stands before.

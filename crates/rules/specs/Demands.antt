@@ -3,7 +3,7 @@
 -- Nothing is proved here: the crate that proves a statement has a value of that very type. Assumes nothing.
 use Prim.Native.Nat.{ℕ, _+_, _-_, _*_, _%_, _<_, _≤_}
 use mathlib.Core.Path.{_≡_}
-use mathlib.Core.Bool.{true, false, cond}
+use mathlib.Core.Bool.{Bool, true, false, cond}
 use mathlib.Core.Logic.{_↔_, _⊎_}
 use mathlib.Core.Option.{Option, some, none}
 use mathlib.Core.List.{List, [], _∷_, _++_}
@@ -15,7 +15,7 @@ use Rattle.rules.specs.declared.Request.the-variants.{Create, Reserve, O
 use Rattle.rules.specs.Lists.{seek, any, Each}
 use Rattle.rules.specs.Words.{Image, Mem, Store, Bytes, Aligned, mem, wordBytes}
 use Rattle.rules.specs.Pages.{isPool, staticAt, clumpsAt}
-use Rattle.rules.specs.Clumps.{Head, headerBytes, bodyOf, endOf, FREE, RESERVED, ACTIVE, hasState, isLive, isPending, entries}
+use Rattle.rules.specs.Clumps.{Head, headerBytes, bodyOf, endOf, FREE, RESERVED, hasState, isLive, isWaiting, isPending, Choice, unmarked, due, freed, entriesBy}
 use Rattle.rules.specs.Sound.{judge, unsettled}
 use Rattle.rules.specs.Answers.{done, notSound, noRoom, cutShort}
 use Rattle.rules.specs.Stores.{createCount, needOf, leastRest, splitCount, wholeCount, mostActivateCount, mostFreeCount}
@@ -112,14 +112,10 @@ NotCleared =
     → within (bodyOf h) (endOf h) i ≡ true
     → getD x i 0 ≡ getD img i 0
 
--- the list that a request carries out, if it is granted
-abbrev pub entriesOf : Mem → Option Head → List Store
-entriesOf m none = []
-entriesOf m (some h) = entries m (h .at)
-
-abbrev pub entriesIf : ℕ → Mem → Option Head → List Store
-entriesIf s m none = []
-entriesIf s m (some h) = cond (hasState s h) (entries m (h .at)) []
+-- the entries that a request carries out in the clump that it finds, if that passes the test, and it is granted
+abbrev pub entriesOf : (Head → Bool) → (Head → Choice) → Mem → Option Head → List Store
+entriesOf t c m none = []
+entriesOf t c m (some h) = cond (t h) (entriesBy (c h) m (h .at)) []
 
 abbrev pub carriedOut : Mem → List Head → Request → List Store
 carriedOut m hs Create = []
@@ -127,14 +123,14 @@ carriedOut m hs (Reserve size) = []
 carriedOut m hs (Onactive o t v) = []
 carriedOut m hs (Onfree o t v) = []
 carriedOut m hs (Withdraw o) = []
-carriedOut m hs (Activate o) = entriesIf RESERVED m (finder hs o)
-carriedOut m hs (Free o) = entriesIf ACTIVE m (finder hs o)
+carriedOut m hs (Activate o) = entriesOf (hasState RESERVED) (λ h. unmarked) m (finder hs o)
+carriedOut m hs (Free o) = entriesOf isWaiting freed m (finder hs o)
 carriedOut m hs Check = []
-carriedOut m hs Recover = entriesOf m (seek isPending hs)
+carriedOut m hs Recover = entriesOf isPending due m (seek isPending hs)
 
 -- How many stores a request makes that is done. Create: "1,033 stores." Reserve: "With a rest of 128 or more .. 7 stores. With a
 -- smaller rest .. 4 stores." Onactive and onfree: "value, then target". Withdraw: "0 to the last used target". Activate: "With e entries
--- this makes 2 + 2e stores, 8 at most." Free: "At most 7 stores." Of recover no number is given.
+-- this makes 2 + 2e stores, 8 at most", of the unmarked entries (W4). Free: "At most 7 stores." Of recover no number is given.
 abbrev pub Counted : Image → Request → Answer → Type 0
 Counted img Create r = r .stores ≡ createCount
 Counted img (Reserve size) r =
@@ -144,7 +140,7 @@ Counted img (Reserve size) r =
 Counted img (Onactive o t v) r = r .stores ≡ 2
 Counted img (Onfree o t v) r = r .stores ≡ 2
 Counted img (Withdraw o) r = r .stores ≡ 1
-Counted img (Activate o) r = (r .stores ≡ 2 + 2 * length (entriesOf (mem img) (finder (clumpsOf img) o))) × (r .stores ≤ mostActivateCount)
+Counted img (Activate o) r = (r .stores ≡ 2 + 2 * length (carriedOut (mem img) (clumpsOf img) (Activate o))) × (r .stores ≤ mostActivateCount)
 Counted img (Free o) r = r .stores ≤ mostFreeCount
 Counted img Check r = r .stores ≡ 0
 Counted img Recover r = Unit {0}

@@ -15,3 +15,5 @@ pub mod PowerLoss
 pub mod Cases
 pub mod Samples
 pub mod ReadingSamples
+pub mod MarkSamples
+pub mod Earlier

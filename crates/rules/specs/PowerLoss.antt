@@ -7,17 +7,18 @@ use mathlib.Core.Option.{none}
 use mathlib.Core.List.{List, [], _∷_}
 use lib.ListN.{length, replicate}
 use lib.Seq.{slice}
-use Rattle.rules.specs.declared.Request.the-variants.{Create, Activate, Recover}
+use Rattle.rules.specs.declared.Request.{Request}
+use Rattle.rules.specs.declared.Request.the-variants.{Create, Activate, Free, Recover}
 use Rattle.rules.specs.Lists.{those, Each}
 use Rattle.rules.specs.Words.{Image, Store, Bytes, mem}
 use Rattle.rules.specs.Pages.{rightLength, isPool, staticAt, staticEnd, pageBytes, clumpsAt}
 use Rattle.rules.specs.Clumps.{FREE, isFree, isLive}
 use Rattle.rules.specs.Sound.{judge}
 use Rattle.rules.specs.Stores.{createCount}
-use Rattle.rules.specs.Requests.{cut, finished, finder, storesFor}
+use Rattle.rules.specs.Requests.{cut, finished, storesFor}
 use Rattle.rules.specs.Reading.{clumpsOf, Tiled, reading}
-use Rattle.rules.specs.Traces.{asIf, Recovering, Cut, Ready, OnTheWay}
-use Rattle.rules.specs.Demands.{Settled, Accepted, entriesOf}
+use Rattle.rules.specs.Traces.{asIf, isThrough, Recovering, Cut, Ready, OnTheWay}
+use Rattle.rules.specs.Demands.{Settled, Accepted, carriedOut}
 
 -- "1,033 stores. Cut after 1 to 1,032, the image is no pool (answer 1)."
 abbrev pub CreateCut : Type 0
@@ -69,15 +70,23 @@ abbrev pub Distinct : List Store → Type 0
 Distinct [] = Unit {0}
 Distinct (s ∷ st) = Each (λ t. s .to ≡ t .to → ⊥) st × Distinct st
 
--- the customer's sentence: after any cut of an activation that is accepted, and recovery, the words that the clump's list names all
--- hold the listed values, or all hold what they held before: the latter exactly where no store was made
-abbrev pub AllOrNone : Type 0
-AllOrNone =
-    (img x : Image) (offset k : ℕ)
-    → let st = entriesOf (mem img) (finder (clumpsOf img) offset) in
+-- the customer's sentence, of a request that carries out a list: if it is accepted, then after any cut of it, and recovery, the words that
+-- the entries carried out name all hold the listed values, or all hold what they held before: the latter exactly up to the store that decides
+abbrev pub AllOrNoneOf : Request → Type 0
+AllOrNoneOf q =
+    (img x : Image) (k : ℕ)
+    → let st = carriedOut (mem img) (clumpsOf img) q in
+    let through = isThrough (mem img) (clumpsOf img) q k in
     let y = finished x Recover in
     Ready img
-    → Accepted img (Activate offset)
-    → Recovering (cut img (Activate offset) k) x
-    → (k ≡ 0 → Each (λ s. mem y (s .to) ≡ mem img (s .to)) st)
-    × (0 < k → Distinct st → Each (λ s. mem y (s .to) ≡ s .word) st)
+    → Accepted img q
+    → Recovering (cut img q k) x
+    → (through ≡ false → Each (λ s. mem y (s .to) ≡ mem img (s .to)) st)
+    × (through ≡ true → Distinct st → Each (λ s. mem y (s .to) ≡ s .word) st)
+
+-- of an activation; and W4, of a free, with onfree entries listed before or after activation
+abbrev pub AllOrNone : Type 0
+AllOrNone = (offset : ℕ) → AllOrNoneOf (Activate offset)
+
+abbrev pub FreeAllOrNone : Type 0
+FreeAllOrNone = (offset : ℕ) → AllOrNoneOf (Free offset)

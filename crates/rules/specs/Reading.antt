@@ -1,4 +1,4 @@
--- The pool's reading, byte for byte (01, "Stores and the fuse"), and the parts of an image that are the owner's.
+-- The pool's reading, byte for byte (01, "Stores and the fuse"; 02, W4), and the parts of an image that are the owner's.
 -- Assumes nothing.
 use Prim.Native.Nat.{ℕ, _+_}
 use mathlib.Core.Bool.{Bool, _&&_, _||_}
@@ -9,7 +9,7 @@ use lib.Seq.{slice}
 use Rattle.rules.specs.Lists.{those, any}
 use Rattle.rules.specs.Words.{Image, Mem, Store, mem, wordBytes}
 use Rattle.rules.specs.Pages.{staticAt, staticEnd, headerAt, clumpsAt}
-use Rattle.rules.specs.Clumps.{Head, Tiles, bodyOf, endOf, isFree, isLive, isWaiting, isEmpty, listStart, slots, valueAt, entries, walk}
+use Rattle.rules.specs.Clumps.{Head, Tiles, bodyOf, endOf, isFree, isLive, isWaiting, isEmpty, listStart, slots, valueAt, Choice, used, marked, slotsBy, entry, walk}
 
 -- the clumps of an image
 abbrev pub clumpsOf : Image → List Head
@@ -19,11 +19,25 @@ clumpsOf img = walk (length img) (mem img)
 abbrev pub Tiled : Image → Type 0
 Tiled img = Tiles clumpsAt (clumpsOf img) (length img)
 
+-- A used entry as it is read: where it stands, since W4 has a new entry go after the last used one; whether it is marked; and what it
+-- assigns.
+pub record Listed : Type 0 where
+  pub place : ℕ
+  pub mark : Bool
+  pub assigns : Store
+
+abbrev pub listedAt : Mem → ℕ → Listed
+listedAt m s = record { place = s; mark = marked (m s); assigns = entry m s }
+
+-- the chosen entries of the clump at a
+abbrev pub listing : Choice → Mem → ℕ → List Listed
+listing c m a = map (listedAt m) (slotsBy c m a)
+
 -- "The pool's reading: sizes and states along the walk, used entries of RESERVED and ACTIVE clumps, the static area, bodies that
 -- aren't FREE."
 pub record Reading : Type 0 where
   pub clumps : List Head
-  pub lists : List (List Store)
+  pub lists : List (List Listed)
   pub static : List ℕ
   pub bodies : List (List ℕ)
 
@@ -32,7 +46,7 @@ abbrev pub readingBy : List Head → Mem → (ℕ → ℕ → List ℕ) → Read
 readingBy hs m part =
     record {
       clumps = hs;
-      lists = map (λ h. entries m (h .at)) (those isWaiting hs);
+      lists = map (λ h. listing used m (h .at)) (those isWaiting hs);
       static = part staticAt staticEnd;
       bodies = map (λ h. part (bodyOf h) (endOf h)) (those isLive hs);
     }

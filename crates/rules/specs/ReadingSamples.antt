@@ -4,16 +4,16 @@
 -- statement that is proved in laws. Assumes nothing.
 use Prim.Native.Nat.{ℕ, zero, suc, _+_, _-_, _/_}
 use mathlib.Core.Path.{_≡_, refl}
-use mathlib.Core.Bool.{true, false}
+use mathlib.Core.Bool.{Bool, true, false}
 use mathlib.Core.List.{List, [], _∷_, _++_, map}
 use lib.ListN.{replicate}
-use Rattle.rules.specs.declared.Request.the-variants.{Create, Activate, Free}
+use Rattle.rules.specs.declared.Request.{Request}
+use Rattle.rules.specs.declared.Request.the-variants.{Create}
 use Rattle.rules.specs.Words.{Image, Mem, Store, store, put, wordBytes}
 use Rattle.rules.specs.Pages.{pageBytes, clumpsAt}
 use Rattle.rules.specs.Clumps.{Head, walk}
-use Rattle.rules.specs.Requests.{finished}
-use Rattle.rules.specs.Reading.{Reading, readingBy, reading, inPart, mayWrite, hidden, inSparePage}
-use Rattle.rules.specs.Traces.{asIf}
+use Rattle.rules.specs.Reading.{Listed, Reading, readingBy, reading, inPart, mayWrite, hidden, inSparePage}
+use Rattle.rules.specs.Traces.{isThrough}
 use Rattle.rules.specs.Cases.{everyRule, Pool, poolOf}
 use Rattle.rules.specs.Samples.{requestsOn}
 
@@ -70,19 +70,26 @@ clump a size s = record { at = a; nbytes = size; state = s }
 abbrev pub zerosIn : ℕ → ℕ → ℕ → List ℕ
 zerosIn a k z = a ∷ (replicate k 0 ++ (z ∷ []))
 
+-- an entry that is read: where it stands, its target and its value; unmarked, and marked
+abbrev pub plain : ℕ → ℕ → ℕ → Listed
+plain s t v = record { place = s; mark = false; assigns = store t v }
+
+abbrev pub onFree : ℕ → ℕ → ℕ → Listed
+onFree s t v = record { place = s; mark = true; assigns = store t v }
+
 -- the reading of that pool: its first clump in a state, the lists that are read before the RESERVED clump's, the first word of the static
 -- area and that of the first body
-abbrev pub told : ℕ → List (List Store) → ℕ → ℕ → Reading
+abbrev pub told : ℕ → List (List Listed) → ℕ → ℕ → Reading
 told s lists static body =
     record {
       clumps = clump 16384 128 s ∷ clump 16512 128 0 ∷ clump 16640 192 1 ∷ clump 16832 128 2 ∷ [];
-      lists = lists ++ ((store 16448 9 ∷ []) ∷ []);
+      lists = lists ++ ((plain 16656 16448 9 ∷ []) ∷ []);
       static = zerosIn static 510 3;
       bodies = zerosIn body 6 12 ∷ zerosIn 15 14 16 ∷ zerosIn 17 6 18 ∷ [];
     }
 
-abbrev pub firstList : List (List Store)
-firstList = (store 4096 7 ∷ store 8184 16504 ∷ []) ∷ []
+abbrev pub firstList : List (List Listed)
+firstList = (plain 16400 4096 7 ∷ plain 16416 8184 16504 ∷ []) ∷ []
 
 -- a pool of one ACTIVE clump as an image, byte for byte: it lists (4104, 9)
 abbrev pub inBytes : ℕ → Image
@@ -101,18 +108,29 @@ OneClumpReads =
     reading oneClump
     ≡ record {
       clumps = clump clumpsAt 128 3 ∷ [];
-      lists = (store 4104 9 ∷ []) ∷ [];
+      lists = (plain 16400 4104 9 ∷ []) ∷ [];
       static = zerosIn 2 4094 3;
       bodies = zerosIn 5 62 6 ∷ [];
     }
+
+-- RESERVED, with the entries (4096, 7), unmarked, and (4104, 9), marked
+abbrev pub mixed : Pool
+mixed = poolOf ((128, 1) ∷ []) (store 16400 4096 ∷ store 16408 7 ∷ store 16416 4105 ∷ store 16424 9 ∷ [])
+
+-- a request that was cut after k stores is carried through
+abbrev pub through : Pool → ℕ → Request → Bool
+through p k q = isThrough (p .1) (walk (p .0) (p .1)) q k
 
 abbrev pub ReadingSamples : Type 0
 ReadingSamples =
     -- the pool; then another listed value, another listed target, an entry more, another word of the static area, of the first body
     (reads (kiln []) ≡ told 3 firstList 2 11)
-    × (reads (kiln (store 16408 8 ∷ [])) ≡ told 3 ((store 4096 8 ∷ store 8184 16504 ∷ []) ∷ []) 2 11)
-    × (reads (kiln (store 16400 4104 ∷ [])) ≡ told 3 ((store 4104 7 ∷ store 8184 16504 ∷ []) ∷ []) 2 11)
-    × (reads (kiln (store 16432 4104 ∷ [])) ≡ told 3 ((store 4096 7 ∷ store 8184 16504 ∷ store 4104 77 ∷ []) ∷ []) 2 11)
+    × (reads (kiln (store 16408 8 ∷ [])) ≡ told 3 ((plain 16400 4096 8 ∷ plain 16416 8184 16504 ∷ []) ∷ []) 2 11)
+    × (reads (kiln (store 16400 4104 ∷ [])) ≡ told 3 ((plain 16400 4104 7 ∷ plain 16416 8184 16504 ∷ []) ∷ []) 2 11)
+    × (reads (kiln (store 16432 4104 ∷ [])) ≡ told 3 ((plain 16400 4096 7 ∷ plain 16416 8184 16504 ∷ plain 16432 4104 77 ∷ []) ∷ []) 2 11)
+    -- W4, an entry marked, and one that stands behind a gap
+    × (reads (kiln (store 16416 8185 ∷ [])) ≡ told 3 ((plain 16400 4096 7 ∷ onFree 16416 8184 16504 ∷ []) ∷ []) 2 11)
+    × (reads (kiln (store 16416 0 ∷ store 16432 4105 ∷ [])) ≡ told 3 ((plain 16400 4096 7 ∷ onFree 16432 4104 77 ∷ []) ∷ []) 2 11)
     × (reads (kiln (store 4096 258 ∷ [])) ≡ told 3 firstList 258 11)
     × (reads (kiln (store 16448 267 ∷ [])) ≡ told 3 firstList 2 267)
     -- another state: RESERVED, whose list is read too, and FREEING, whose list is not
@@ -142,12 +160,16 @@ ReadingSamples =
     ≡ false ∷ false ∷ false ∷ true ∷ true ∷ true ∷ true ∷ true ∷ false ∷ false ∷ false ∷ false ∷ true ∷ [])
     -- the pages that are never read or written
     × (map inSparePage (0 ∷ 4095 ∷ 4096 ∷ 8191 ∷ 8192 ∷ 12287 ∷ 12288 ∷ []) ≡ true ∷ true ∷ false ∷ false ∷ true ∷ true ∷ false ∷ [])
-    -- what a cut request reads as: with no store made the image before it; with one, of activate and free the finished image
-    × ((img : Image) → map (λ q. asIf img q 0) (Create ∷ requestsOn 16448) ≡ replicate 9 img)
-    × ((img : Image) (k : ℕ)
-    → map (λ q. asIf img q (suc k)) (Create ∷ requestsOn 16448)
-    ≡ img ∷ img ∷ img ∷ img ∷ img ∷ finished img (Activate 16448) ∷ finished img (Free 16448) ∷ img ∷ img ∷ [])
+    -- what a cut request reads as, true for the finished image: with no store made none; with one activate and free, unless free of a
+    -- RESERVED clump with a marked entry empties others first (W4); with two that as well
+    × (map (λ p. map (through p 0) (Create ∷ requestsOn 16448)) (kiln [] ∷ mixed ∷ []) ≡ replicate 2 (replicate 9 false))
+    × (map (through (kiln []) 1) (Create ∷ requestsOn 16448)
+    ≡ false ∷ false ∷ false ∷ false ∷ false ∷ true ∷ true ∷ false ∷ false ∷ [])
+    × (map (λ k. map (through mixed k) (Create ∷ requestsOn 16448)) (1 ∷ 2 ∷ [])
+    ≡ (false ∷ false ∷ false ∷ false ∷ false ∷ true ∷ false ∷ false ∷ false ∷ [])
+    ∷ (false ∷ false ∷ false ∷ false ∷ false ∷ true ∷ true ∷ false ∷ false ∷ [])
+    ∷ [])
 
 readingSamples : ReadingSamples
 unfolding everyRule inPart hidden inSparePage
-readingSamples = (refl, refl, refl, refl, refl, refl, refl, refl, refl, refl, refl, refl, refl, refl, (λ img. refl), (λ img k. refl))
+readingSamples = (refl, refl, refl, refl, refl, refl, refl, refl, refl, refl, refl, refl, refl, refl, refl, refl, refl, refl, refl)

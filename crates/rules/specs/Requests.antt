@@ -1,9 +1,9 @@
 -- The verdict on each of the nine requests: its tests by rising number, then its stores (01, "What a request answers" and
--- "Stores and the fuse"); what the finder answers (02, W7); and what a request makes of an image. Total on any length, any words and any
--- numbers. Assumes nothing.
+-- "Stores and the fuse"; 02, W4); what the finder answers (02, W7); and what a request makes of an image. Total on any length, any words and
+-- any numbers. Assumes nothing.
 use Prim.Native.Nat.{ℕ, _<_}
 use mathlib.Core.Path.{_≡_}
-use mathlib.Core.Bool.{Bool, true, cond, not}
+use mathlib.Core.Bool.{Bool, cond, not}
 use mathlib.Core.Option.{Option, some, none, Option·map}
 use mathlib.Core.List.{List, [], _∷_}
 use lib.Dec.{eqb}
@@ -12,10 +12,10 @@ use Rattle.rules.specs.declared.Answer.{Answer}
 use Rattle.rules.specs.declared.Totals.{Totals}
 use Rattle.rules.specs.declared.Request.{Request}
 use Rattle.rules.specs.declared.Request.the-variants.{Create, Reserve, Onactive, Onfree, Withdraw, Activate, Free, Check, Recover}
-use Rattle.rules.specs.Lists.{seek}
+use Rattle.rules.specs.Lists.{seek, any}
 use Rattle.rules.specs.Words.{Image, Mem, Store, mem, carry, wordValues}
 use Rattle.rules.specs.Pages.{rightLength}
-use Rattle.rules.specs.Clumps.{Head, bodyOf, RESERVED, ACTIVE, hasState, isWaiting, isEmpty, slots, usedSlots, walk, beforeOf, offsetOf}
+use Rattle.rules.specs.Clumps.{Head, bodyOf, RESERVED, hasState, isWaiting, isUsed, slots, used, unmarked, freed, withMark, slotsBy, walk, beforeOf, offsetOf}
 use Rattle.rules.specs.Sound.{isValid, allValid}
 use Rattle.rules.specs.Answers.{Verdict, granted, refuse, test, ifSound, ifSettled, notPool, sizeZero, noRoom, noClump, wrongState, listFull, listEmpty, badTarget, storesOf, answerOf, totalsFor}
 use Rattle.rules.specs.Stores.{createStores, needOf, fits, reserveStores, listStores, withdrawStores, activateStores, freeStores, recoverStores}
@@ -43,15 +43,20 @@ belowOf hs h = offsetOf 0 (beforeOf hs h)
 abbrev pub finding : List Head → ℕ → Option (ℕ × ℕ)
 finding hs offset = Option·map (λ h. (h .at, belowOf hs h)) (finder hs offset)
 
--- onactive and onfree on a clump: 7 unless the state is the one that is allowed, 8, 10
-abbrev pub listed : Bool → Option ℕ → ℕ → ℕ → ℕ → Verdict
-listed valid none offset target value = refuse listFull
-listed valid (some s) offset target value = test (not valid) badTarget (granted offset (listStores s target value))
+-- W4: "A new entry goes after the last used one, answer 8 if that is the third": the first entry from which on none is used
+unfoldable pub openSlot : Mem → List ℕ → Option ℕ
+openSlot m [] = none
+openSlot m (s ∷ sl) = cond (any (isUsed m) (s ∷ sl)) (openSlot m sl) (some s)
 
-unfoldable pub enlist : Mem → List Head → ℕ → ℕ → ℕ → ℕ → Head → Verdict
-enlist m hs allowed offset target value h =
-    test (not (hasState allowed h)) wrongState
-    (listed (isValid hs target) (seek (isEmpty m) (slots (h .at))) offset target value)
+-- onactive and onfree on a clump: 7 unless its state is one that is allowed, 8, 10. The word is the target as it is stored.
+abbrev pub listed : Bool → Option ℕ → ℕ → ℕ → ℕ → Verdict
+listed valid none offset word value = refuse listFull
+listed valid (some s) offset word value = test (not valid) badTarget (granted offset (listStores s word value))
+
+unfoldable pub enlist : Mem → List Head → (Head → Bool) → ℕ → ℕ → ℕ → ℕ → Head → Verdict
+enlist m hs allowed offset target word value h =
+    test (not (allowed h)) wrongState
+    (listed (isValid hs target) (openSlot m (slots (h .at))) offset word value)
 
 -- withdraw from a clump: 7, 9
 abbrev pub withdrawn : List ℕ → ℕ → Verdict
@@ -59,29 +64,28 @@ withdrawn [] offset = refuse listEmpty
 withdrawn (s ∷ sl) offset = granted offset (withdrawStores s sl)
 
 unfoldable pub withdraw : Mem → ℕ → Head → Verdict
-withdraw m offset h = test (not (isWaiting h)) wrongState (withdrawn (usedSlots m (h .at)) offset)
+withdraw m offset h = test (not (isWaiting h)) wrongState (withdrawn (slotsBy used m (h .at)) offset)
 
--- activate a clump: 7; "every used target must be valid now, else 10"
+-- activate a clump: 7; "every used target must be valid now, else 10"; W4: it judges "the unmarked entries"
 unfoldable pub activate : Mem → List Head → ℕ → Head → Verdict
 activate m hs offset h =
     test (not (hasState RESERVED h)) wrongState
-    (test (not (allValid m hs h)) badTarget (granted offset (activateStores m h)))
+    (test (not (allValid unmarked m hs h)) badTarget (granted offset (activateStores m h)))
 
--- free a clump: 7; of an ACTIVE one "every used target must be valid now, else 10"
-abbrev pub mayDrop : Mem → List Head → Head → Bool
-mayDrop m hs h = cond (hasState ACTIVE h) (allValid m hs h) true
-
+-- free a clump: 7; of an ACTIVE one "every used target must be valid now, else 10"; W4: of a RESERVED one it judges the marked ones, of
+-- which there may be none
 unfoldable pub free : Mem → List Head → ℕ → Head → Verdict
 free m hs offset h =
     test (not (isWaiting h)) wrongState
-    (test (not (mayDrop m hs h)) badTarget (granted offset (freeStores m hs h)))
+    (test (not (allValid (freed h) m hs h)) badTarget (granted offset (freeStores m hs h)))
 
--- the verdict on a request, over an image's length and memory. "Create gives 1 only for length."
+-- the verdict on a request, over an image's length and memory. "Create gives 1 only for length." W4: "Onfree always writes" the mark "and
+-- now takes RESERVED too."
 unfoldable pub verdict : ℕ → Mem → Request → Verdict
 verdict n m Create = test (not (rightLength n)) notPool (granted 0 (createStores n))
 verdict n m (Reserve size) = ifSettled n m (reserve (walk n m) size)
-verdict n m (Onactive o t v) = let hs = walk n m in ifSettled n m (found (finder hs o) (enlist m hs RESERVED o t v))
-verdict n m (Onfree o t v) = let hs = walk n m in ifSettled n m (found (finder hs o) (enlist m hs ACTIVE o t v))
+verdict n m (Onactive o t v) = let hs = walk n m in ifSettled n m (found (finder hs o) (enlist m hs (hasState RESERVED) o t t v))
+verdict n m (Onfree o t v) = let hs = walk n m in ifSettled n m (found (finder hs o) (enlist m hs isWaiting o t (withMark t) v))
 verdict n m (Withdraw o) = ifSettled n m (found (finder (walk n m) o) (withdraw m o))
 verdict n m (Activate o) = let hs = walk n m in ifSettled n m (found (finder hs o) (activate m hs o))
 verdict n m (Free o) = let hs = walk n m in ifSettled n m (found (finder hs o) (free m hs o))

@@ -88,11 +88,12 @@ Samples =
     -- fault 2, by the second clump's state
     × (map (λ s. checked (poolOf ((128, 0) ∷ (128, s) ∷ []) [])) (4 ∷ 5 ∷ 6 ∷ 256 ∷ longest ∷ [])
     ≡ (0, 0, 0) ∷ (2, 16512, 2) ∷ (2, 16512, 2) ∷ (2, 16512, 2) ∷ (2, 16512, 2) ∷ [])
-    -- fault 3, by the targets of a RESERVED clump and of an ACTIVE one; the list of a FREE one means nothing
+    -- fault 3, by the targets of a RESERVED clump and of an ACTIVE one (W4: empty entries may stand anywhere); the list of a FREE one means
+    -- nothing
     × (map (λ t. checked (listing 1 t)) ((0, 4096, 0) ∷ (4096, 0, 8184) ∷ (4096, 8184, 16632) ∷ (4100, 0, 0) ∷ (4096, 8192, 0) ∷ (16376, 0, 0) ∷ (16384, 0, 0) ∷ (16640, 0, 0) ∷ [])
-    ≡ (2, 16384, 3) ∷ (2, 16384, 3) ∷ (0, 0, 0) ∷ (2, 16384, 3) ∷ (2, 16384, 3) ∷ (2, 16384, 3) ∷ (0, 0, 0) ∷ (2, 16384, 3) ∷ [])
+    ≡ (0, 0, 0) ∷ (0, 0, 0) ∷ (0, 0, 0) ∷ (2, 16384, 3) ∷ (2, 16384, 3) ∷ (2, 16384, 3) ∷ (0, 0, 0) ∷ (2, 16384, 3) ∷ [])
     × (map (λ t. checked (listing 3 t)) ((0, 0, 4096) ∷ (4096, 4104, 8184) ∷ (4096, 8188, 0) ∷ (8, 0, 0) ∷ [])
-    ≡ (2, 16384, 3) ∷ (0, 0, 0) ∷ (2, 16384, 3) ∷ (2, 16384, 3) ∷ [])
+    ≡ (0, 0, 0) ∷ (0, 0, 0) ∷ (2, 16384, 3) ∷ (2, 16384, 3) ∷ [])
     × (checked (listing 0 (4100, 0, 1)) ≡ (0, 0, 0))
     -- fault 4, and the lower number before the higher
     × (map (λ s. checked (poolOf ((128, 2) ∷ (128, s) ∷ []) (store 16400 16384 ∷ []))) (2 ∷ 4 ∷ 5 ∷ [])
@@ -110,8 +111,8 @@ Samples =
     -- answers 4, 6 and 7, with FREE 128 and ACTIVE 128
     × (map (answered (poolOf ((128, 0) ∷ (128, 3) ∷ []) [])) (Reserve 0 ∷ Activate 16384 ∷ Activate 16448 ∷ Free 16448 ∷ Withdraw 16448 ∷ Activate 16576 ∷ Onactive 16576 4096 1 ∷ [])
     ≡ 4 ∷ 6 ∷ 7 ∷ 7 ∷ 7 ∷ 7 ∷ 7 ∷ [])
-    -- answers 7, 8, 9 and 10 on a RESERVED clump: its list full, then empty
-    × (map (answered (listing 1 (4096, 4096, 4096))) (Onfree 16448 4096 1 ∷ Onactive 16448 8192 1 ∷ Withdraw 16448 ∷ []) ≡ 7 ∷ 8 ∷ 0 ∷ [])
+    -- answers 8, 9 and 10 on a RESERVED clump: its list full, then empty
+    × (map (answered (listing 1 (4096, 4096, 4096))) (Onfree 16448 4096 1 ∷ Onactive 16448 8192 1 ∷ Withdraw 16448 ∷ []) ≡ 8 ∷ 8 ∷ 0 ∷ [])
     × (map (answered (listing 1 (0, 0, 0))) (Withdraw 16448 ∷ Onactive 16448 8192 1 ∷ Onactive 16448 16504 1 ∷ Free 16448 ∷ []) ≡ 9 ∷ 10 ∷ 0 ∷ 0 ∷ [])
     -- answer 10 of a target that was listed and lies in a FREE body now: activate and free of an ACTIVE clump, not free of a RESERVED one
     × ((answered (listing 1 (16576, 0, 0)) (Activate 16448) ∷ answered (listing 3 (16576, 0, 0)) (Free 16448) ∷ answered (listing 1 (16576, 0, 0)) (Free 16448) ∷ []) ≡ 10 ∷ 10 ∷ 0 ∷ [])
@@ -149,7 +150,7 @@ Samples =
     ≡ (17472, 128) ∷ (17480, 0) ∷ (16400, 0) ∷ (16416, 0) ∷ (16432, 0) ∷ (16384, 1088) ∷ (16392, 1) ∷ [])
     × (listOf (poolOf ((1152, 0) ∷ []) []) (Reserve 1000) ≡ (16400, 0) ∷ (16416, 0) ∷ (16432, 0) ∷ (16392, 1) ∷ [])
     × (listOf (listing 1 (4096, 0, 0)) (Onactive 16448 8184 9) ≡ (16424, 9) ∷ (16416, 8184) ∷ [])
-    × (listOf (listing 3 (4096, 4096, 0)) (Onfree 16448 16448 5) ≡ (16440, 5) ∷ (16432, 16448) ∷ [])
+    × (listOf (listing 3 (4096, 4096, 0)) (Onfree 16448 16448 5) ≡ (16440, 5) ∷ (16432, 16449) ∷ [])
     × (listOf (listing 3 (4096, 4104, 0)) (Withdraw 16448) ≡ (16416, 0) ∷ [])
     × (listOf caseH (Activate 16448) ≡ (16392, 2) ∷ (4096, 7) ∷ (4096, 9) ∷ (16400, 0) ∷ (16416, 0) ∷ (16392, 3) ∷ [])
     × (listOf between (Free 16576) ≡ (16520, 4) ∷ (4096, 7) ∷ (16520, 0) ∷ (16512, 256) ∷ (16384, 384) ∷ [])

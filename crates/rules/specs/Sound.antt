@@ -1,4 +1,4 @@
--- A sound pool: the five faults in the order of judging, and their places (01, "A sound pool").
+-- A sound pool: the five faults in the order of judging, and their places (01, "A sound pool"; 02, W4).
 -- n is the image's length, m its memory, hs the clumps of its walk. Total on any n and m. Assumes nothing.
 use Prim.Native.Nat.{ℕ, _+_, _%_}
 use mathlib.Core.Bool.{Bool, false, cond, not, _&&_, _||_}
@@ -8,7 +8,7 @@ use lib.Dec.{eqb, leb, ltb}
 use Rattle.rules.specs.Lists.{seek, those, any, all}
 use Rattle.rules.specs.Words.{Mem, wordBytes}
 use Rattle.rules.specs.Pages.{staticAt, staticEnd, clumpsAt, unit}
-use Rattle.rules.specs.Clumps.{Head, bodyOf, endOf, leastClump, FREEING, isFree, isLive, isWaiting, isPending, isEmpty, isUsed, slots, usedSlots, targetAt, walk}
+use Rattle.rules.specs.Clumps.{Head, bodyOf, endOf, leastClump, FREEING, isFree, isLive, isPending, Choice, slotsBy, targetAt, due, waiting, walk}
 
 -- a fault has a number and a place: "The place is the header offset of the clump at fault (for 4, of the second)."
 pub record Fault : Type 0 where
@@ -38,16 +38,10 @@ lies a b t = leb a t && leb (t + wordBytes) b
 unfoldable pub inPlace : ℕ → ℕ → Bool
 inPlace n t = isEven t && (lies staticAt staticEnd t || lies clumpsAt n t)
 
--- "a used entry after an empty one"
-unfoldable pub gapped : Mem → List ℕ → Bool
-gapped m [] = false
-gapped m (s ∷ sl) = (isEmpty m s && any (isUsed m) sl) || gapped m sl
-
--- "3. list: in a RESERVED or ACTIVE clump a used entry after an empty one, or a target that isn't .. "
+-- "3. list: in a RESERVED or ACTIVE clump .. a target that isn't .. ". W4: "Gaps are now sound in every state"; of an ACTIVATING clump
+-- "marked ones wait, judged there by the rest of fault 3"
 unfoldable pub listBad : ℕ → Mem → Head → Bool
-listBad n m h =
-    isWaiting h
-    && (gapped m (slots (h .at)) || any (λ s. not (inPlace n (targetAt m s))) (usedSlots m (h .at)))
+listBad n m h = any (λ s. not (inPlace n (targetAt m s))) (slotsBy (waiting h) m (h .at))
 
 -- the first of the faults 1 to 3 in a clump, 0 for none
 unfoldable pub faultOf : ℕ → Mem → Head → ℕ
@@ -74,14 +68,15 @@ holdsWord t h = isLive h && lies (bodyOf h) (endOf h) t
 unfoldable pub isValid : List Head → ℕ → Bool
 isValid hs t = isEven t && (lies staticAt staticEnd t || any (holdsWord t) hs)
 
--- every used target of the clump is valid
-unfoldable pub allValid : Mem → List Head → Head → Bool
-allValid m hs h = all (λ s. isValid hs (targetAt m s)) (usedSlots m (h .at))
+-- every target of the chosen entries of the clump is valid
+unfoldable pub allValid : Choice → Mem → List Head → Head → Bool
+allValid c m hs h = all (λ s. isValid hs (targetAt m s)) (slotsBy c m (h .at))
 
--- "5. in the one ACTIVATING or FREEING clump, a used target that isn't valid"
+-- "5. in the one ACTIVATING or FREEING clump, a used target that isn't valid". W4: marked ones: "fault 5 looks at them only in a FREEING
+-- clump"
 abbrev pub invalid : Mem → List Head → Option Head → Option Fault
 invalid m hs none = none
-invalid m hs (some h) = cond (allValid m hs h) none (some (faultAt 5 h))
+invalid m hs (some h) = cond (allValid (due h) m hs h) none (some (faultAt 5 h))
 
 unfoldable pub targetFault : Mem → List Head → Option Fault
 targetFault m hs = invalid m hs (seek isPending hs)

@@ -1,14 +1,14 @@
--- The list of stores of each request (01, "Stores and the fuse"). A list reads the memory before the request alone.
+-- The list of stores of each request (01, "Stores and the fuse"; 02, W4). A list reads the memory before the request alone.
 -- Assumes nothing.
 use Prim.Native.Nat.{ℕ, _+_, _-_, _*_, _/_}
 use mathlib.Core.Bool.{Bool, cond, _&&_, _||_}
 use mathlib.Core.Option.{Option, some, none}
 use mathlib.Core.List.{List, [], _∷_, _++_, map}
 use lib.Dec.{leb}
-use Rattle.rules.specs.Lists.{seek, those}
+use Rattle.rules.specs.Lists.{seek, those, any}
 use Rattle.rules.specs.Words.{Mem, Store, store, wordBytes, zeros}
 use Rattle.rules.specs.Pages.{pageBytes, staticAt, headerAt, signatureLow, signatureHigh, signatureHighAt, totalAt, paddingAt, paddingWords, clumpsAt, unit}
-use Rattle.rules.specs.Clumps.{Head, headerBytes, stateAt, FREE, RESERVED, ACTIVATING, ACTIVE, FREEING, hasState, isFree, isPending, slots, valueAt, usedSlots, entries, nextOf, beforeOf}
+use Rattle.rules.specs.Clumps.{Head, headerBytes, stateAt, FREE, RESERVED, ACTIVATING, ACTIVE, FREEING, hasState, isFree, isPending, slots, valueAt, Choice, used, marked, unmarked, slotsBy, entriesBy, nextOf, beforeOf}
 use Rattle.rules.specs.Answers.{bytesOf}
 
 -- 0 to each of the target words
@@ -65,7 +65,7 @@ splitCount = 7
 abbrev pub wholeCount : ℕ
 wholeCount = 4
 
--- "into the first empty entry, value, then target"
+-- "value, then target"
 abbrev pub listStores : ℕ → ℕ → ℕ → List Store
 listStores s target value = store (valueAt s) value ∷ store s target ∷ []
 
@@ -77,13 +77,14 @@ lastOf s (t ∷ sl) = lastOf t sl
 abbrev pub withdrawStores : ℕ → List ℕ → List Store
 withdrawStores s sl = store (lastOf s sl) 0 ∷ []
 
--- "each value to its target, in list order; 0 to each used target word of the list, first to last; state ACTIVE"
+-- "each value to its target, in list order; 0 to each used target word of the list, first to last; state ACTIVE". W4: of the unmarked
+-- entries; "marked ones wait"
 unfoldable pub finishActivating : Mem → Head → List Store
-finishActivating m h = entries m (h .at) ++ (emptying (usedSlots m (h .at)) ++ (setState h ACTIVE ∷ []))
+finishActivating m h = entriesBy unmarked m (h .at) ++ (emptying (slotsBy unmarked m (h .at)) ++ (setState h ACTIVE ∷ []))
 
--- "the assignments in order; state FREE"
-unfoldable pub finishFreeing : Mem → Head → List Store
-finishFreeing m h = entries m (h .at) ++ (setState h FREE ∷ [])
+-- "the assignments in order; state FREE", of the chosen entries
+unfoldable pub finishFreeing : Choice → Mem → Head → List Store
+finishFreeing c m h = entriesBy c m (h .at) ++ (setState h FREE ∷ [])
 
 -- "State ACTIVATING; each value to its target .. "
 unfoldable pub activateStores : Mem → Head → List Store
@@ -93,9 +94,16 @@ activateStores m h = setState h ACTIVATING ∷ finishActivating m h
 abbrev pub mostActivateCount : ℕ
 mostActivateCount = 8
 
--- "RESERVED: state FREE, list dropped. ACTIVE: .. state FREEING; the assignments in order; state FREE."
+-- "RESERVED: state FREE, list dropped. ACTIVE: .. state FREEING; the assignments in order; state FREE." W4: "Free of a RESERVED clump with
+-- no marked entry stays as in 01; otherwise it .. empties the unmarked ones first to last and goes by FREEING."
+abbrev pub hasMarked : Mem → Head → Bool
+hasMarked m h = any (λ s. marked (m s)) (slots (h .at))
+
 unfoldable pub dropStores : Mem → Head → List Store
-dropStores m h = cond (hasState ACTIVE h) (setState h FREEING ∷ finishFreeing m h) (setState h FREE ∷ [])
+dropStores m h =
+    cond (hasState ACTIVE h)
+    (setState h FREEING ∷ finishFreeing used m h)
+    (cond (hasMarked m h) (emptying (slotsBy unmarked m (h .at)) ++ (setState h FREEING ∷ finishFreeing marked m h)) (setState h FREE ∷ []))
 
 -- the next clump, if it is FREE, and the one before, if it is
 abbrev pub ifFree : Option Head → Option Head
@@ -127,7 +135,7 @@ mostFreeCount = 7
 -- "finish the ACTIVATING clump (assign, empty the list, ACTIVE) or the FREEING one (assign, FREE)"
 abbrev pub finishing : Mem → Option Head → List Store
 finishing m none = []
-finishing m (some h) = cond (hasState ACTIVATING h) (finishActivating m h) (finishFreeing m h)
+finishing m (some h) = cond (hasState ACTIVATING h) (finishActivating m h) (finishFreeing used m h)
 
 -- "then each RESERVED to FREE, upward"
 unfoldable pub releasing : List Head → List Store

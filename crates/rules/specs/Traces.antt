@@ -1,14 +1,20 @@
--- Histories of a pool: requests, finished or cut, recoveries, finished or cut, and the owner's writes (the demands' third).
+-- Histories of a pool: requests, finished or cut, recoveries, finished or cut, and the owner's writes (the demands' third); at which
+-- store a request turns (01; 02, W4).
 -- Assumes nothing.
-use Prim.Native.Nat.{ℕ, zero, suc}
+use Prim.Native.Nat.{ℕ}
 use mathlib.Core.Path.{_≡_}
 use mathlib.Core.Bool.{Bool, true, false, cond}
+use mathlib.Core.Option.{Option, some, none}
+use mathlib.Core.List.{List}
+use lib.Dec.{ltb}
 use lib.ListN.{length, getD}
 use Rattle.rules.specs.declared.Request.{Request}
 use Rattle.rules.specs.declared.Request.the-variants.{Create, Reserve, Onactive, Onfree, Withdraw, Activate, Free, Check, Recover}
-use Rattle.rules.specs.Words.{Image, Bytes}
+use Rattle.rules.specs.Words.{Image, Mem, Bytes, mem}
 use Rattle.rules.specs.Pages.{rightLength}
-use Rattle.rules.specs.Requests.{Numbers, cut, finished}
+use Rattle.rules.specs.Clumps.{Head, ACTIVE, hasState, unmarked, slotsBy}
+use Rattle.rules.specs.Stores.{hasMarked}
+use Rattle.rules.specs.Requests.{Numbers, cut, finished, finder}
 use Rattle.rules.specs.Reading.{clumpsOf, mayWrite}
 
 -- a write of the owner's: any bytes, where it may
@@ -55,21 +61,26 @@ pub data OnTheWay : Image → Type 0 where
   ready : {img : Image} → Ready img → OnTheWay img
   cutOff : {img x : Image} → Ready img → Cut img x → OnTheWay x
 
--- activate and free: once a store of theirs was made, they are carried through
-abbrev pub isCarriedThrough : Request → Bool
-isCarriedThrough Create = false
-isCarriedThrough (Reserve size) = false
-isCarriedThrough (Onactive o t v) = false
-isCarriedThrough (Onfree o t v) = false
-isCarriedThrough (Withdraw o) = false
-isCarriedThrough (Activate o) = true
-isCarriedThrough (Free o) = true
-isCarriedThrough Check = false
-isCarriedThrough Recover = false
+-- "It equals that of recovering the finished image if one or more stores of activate or free were made." W4, of a free that goes by
+-- FREEING: "Cut before the FREEING store, it reads as not asked": so many stores are made before the one that decides
+abbrev pub beforeTurn : Mem → Option Head → ℕ
+beforeTurn m none = 0
+beforeTurn m (some h) = cond (hasState ACTIVE h) 0 (cond (hasMarked m h) (length (slotsBy unmarked m (h .at))) 0)
+
+-- activate and free: once the store that decides was made, they are carried through
+abbrev pub isThrough : Mem → List Head → Request → ℕ → Bool
+isThrough m hs Create k = false
+isThrough m hs (Reserve size) k = false
+isThrough m hs (Onactive o t v) k = false
+isThrough m hs (Onfree o t v) k = false
+isThrough m hs (Withdraw o) k = false
+isThrough m hs (Activate o) k = ltb 0 k
+isThrough m hs (Free o) k = ltb (beforeTurn m (finder hs o)) k
+isThrough m hs Check k = false
+isThrough m hs Recover k = false
 
 -- "After a cut and recovery, the reading equals that of recovering the image before the request, if the cut fell in reserve,
--- onactive, onfree, withdraw or recover, or before the first store. It equals that of recovering the finished image if one or
--- more stores of activate or free were made": the image that is recovered, after a cut behind k stores
+-- onactive, onfree, withdraw or recover, or before the first store. It equals that of recovering the finished image if .. ": the image
+-- that is recovered, after a cut behind k stores
 abbrev pub asIf : Image → Request → ℕ → Image
-asIf img q zero = img
-asIf img q (suc k) = cond (isCarriedThrough q) (finished img q) img
+asIf img q k = cond (isThrough (mem img) (clumpsOf img) q k) (finished img q) img

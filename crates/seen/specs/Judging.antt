@@ -1,24 +1,24 @@
 -- Laws of the faults 1 to 3 of one clump: a law for each way out of each test, and the header's words stand for the memory that holds
 -- them. Assumes nothing.
 use Prim.Native.Nat.{ℕ, _+_, _-_, _%_, _<_, _≤_}
-use mathlib.Core.Path.{_≡_, refl}
+use mathlib.Core.Path.{_≡_, refl, sym, ap, _∙_}
 use mathlib.Core.Bool.{Bool, true, false, cond, not, _&&_, _||_, or-true}
 use mathlib.Core.List.{List, [], _∷_}
 use native.Mathlib.Omega.{arith}
 use native.Mathlib.Decide.{decLt}
 use lib.Dec.{ltb, eqb}
-use lib.ListN.{getD}
 use borrow.Author.Tests.{lt-ltb, le-ltb, ltb-false, eq-eqb, ne-eqb}
-use Rattle.rules.specs.Lists.{any, all}
+use Rattle.rules.specs.Lists.{those, any, all}
 use Rattle.rules.specs.Words.{Mem}
 use Rattle.rules.specs.Pages.{unit}
-use Rattle.rules.specs.Clumps.{Head, endOf, leastClump, FREEING, isWaiting, slots, usedSlots}
-use Rattle.rules.specs.Sound.{sizeBad, stateBad, inPlace, gapped, listBad, faultOf}
+use Rattle.rules.specs.Clumps.{Head, hasState, endOf, leastClump, ACTIVATING, FREEING, isWaiting, slots, Choice, used, marked, nothing, slotsBy, targetAt}
+use Rattle.rules.specs.Sound.{sizeBad, stateBad, inPlace, listBad, faultOf}
 use Rattle.word.specs.Tests.{ltb-same}
 use Rattle.laws.specs.Walks.{size-good}
-use Rattle.page.specs.Forms.{targetOf, listAt, listPasses}
-use Rattle.page.specs.Slots.{passes-all}
-use Rattle.seen.specs.Forms.{gapsIn, listBadIn, faultIn}
+use Rattle.laws.specs.Choices.{Chooses, chooses-marked}
+use Rattle.page.specs.Forms.{listAt, onlyIn, listPasses}
+use Rattle.page.specs.Slots.{only-used, passes-by}
+use Rattle.seen.specs.Forms.{listBadIn, faultIn}
 
 -- a state that is one of two
 module _ (s a b : ℕ) where
@@ -53,17 +53,6 @@ module _ (n : ℕ) (h : Head) where
       rw (eq-eqb (h .nbytes % unit) 0 f, le-ltb (h .nbytes) leastClump l)
       (ltb-same (n - h .at) (h .nbytes) n (h .at + h .nbytes) (λ k. omega arith) (λ k. omega arith))
 
--- fault 3, of a list as it was read
-module _ (n : ℕ) (l : List (List ℕ)) where
-  abbrev gapsOf : Bool
-  gapsOf = gapsIn (targetOf (getD l 0 [])) (targetOf (getD l 1 [])) (targetOf (getD l 2 []))
-
-  pub list-gaps : gapsOf ≡ true → true ≡ listBadIn n l
-  list-gaps e = rw e
-
-  pub list-tests : gapsOf ≡ false → (b : Bool) → b ≡ listPasses (inPlace n) l → not b ≡ listBadIn n l
-  list-tests e b f = rw (e, f)
-
 -- the faults 1 to 3 of a clump, a law for each way out
 module _ (n : ℕ) (l : List (List ℕ)) (h : Head) where
   pub fault-size : sizeBad n h ≡ true → 1 ≡ faultIn n l h
@@ -76,13 +65,9 @@ module _ (n : ℕ) (l : List (List ℕ)) (h : Head) where
     fault-state u = rw (size, lt-ltb FREEING (h .state) u)
 
     module _ (state : h .state ≤ FREEING) where
-      pub fault-idle : isWaiting h ≡ false → 0 ≡ faultIn n l h
+      pub fault-list : (b : Bool) → b ≡ listBadIn n (h .state) l → cond b 3 0 ≡ faultIn n l h
       unfolding faultIn stateBad
-      fault-idle e = rw (size, le-ltb FREEING (h .state) state, e)
-
-      pub fault-list : (b : Bool) → isWaiting h ≡ true → b ≡ listBadIn n l → cond b 3 0 ≡ faultIn n l h
-      unfolding faultIn stateBad
-      fault-list b e f = rw (size, le-ltb FREEING (h .state) state, e, ← f)
+      fault-list b f = rw (size, le-ltb FREEING (h .state) state, ← f)
 
   -- without one of them it ends in the image, and its state is one of the five
   pub fault-none : faultIn n l h ≡ 0 → (endOf h ≤ n) × (h .state ≤ FREEING)
@@ -94,41 +79,40 @@ module _ (n : ℕ) (l : List (List ℕ)) (h : Head) where
           → sizeBad n h ≡ b
           → (c : Bool)
           → ltb FREEING (h .state) ≡ c
-          → _≡_ {A = ℕ} (cond b 1 (cond c 2 (cond (isWaiting h && listBadIn n l) 3 0))) 0
+          → _≡_ {A = ℕ} (cond b 1 (cond c 2 (cond (listBadIn n (h .state) l) 3 0))) 0
           → (endOf h ≤ n) × (h .state ≤ FREEING)
       go true f c g x = absurd (omega arith)
       go false f true g x = absurd (omega arith)
       go false f false g x = (size-good n h f .2, ltb-false FREEING (h .state) g)
 
--- the gaps of a list, by its three targets
-gaps-are : (m : Mem) (a : ℕ) → gapped m (slots a) ≡ gapsIn (m (a + 16)) (m (a + 32)) (m (a + 48))
-unfolding gapped any
-gaps-are m a = go (eqb (m (a + 16)) 0) (eqb (m (a + 32)) 0) (eqb (m (a + 48)) 0)
-  where
-    go :
-        (t u v : Bool)
-        → (t && (not u || (not v || false)) || (u && (not v || false) || (v && false || false))) ≡ (t && (not u || not v) || u && not v)
-    go true true true = refl
-    go true true false = refl
-    go true false true = refl
-    go true false false = refl
-    go false true true = refl
-    go false true false = refl
-    go false false true = refl
-    go false false false = refl
-
 -- some fails exactly where not all pass
-some-fails : (q : ℕ → Bool) (m : Mem) (sl : List ℕ) → any (λ s. not (q (m s))) sl ≡ not (all (λ s. q (m s)) sl)
+some-fails : (q : ℕ → Bool) (sl : List ℕ) → any (λ s. not (q s)) sl ≡ not (all q sl)
 unfolding any all
-some-fails q m [] = refl
-some-fails q m (s ∷ sl) = go (q (m s)) (some-fails q m sl)
+some-fails q [] = refl
+some-fails q (s ∷ sl) = go (q s) (some-fails q sl)
   where
-    go : (b : Bool) → any (λ r. not (q (m r))) sl ≡ not (all (λ r. q (m r)) sl) → (not b || any (λ r. not (q (m r))) sl) ≡ not (b && all (λ r. q (m r)) sl)
+    go : (b : Bool) → any (λ r. not (q r)) sl ≡ not (all q sl) → (not b || any (λ r. not (q r)) sl) ≡ not (b && all q sl)
     go true e = e
     go false e = refl
 
+-- the chosen entries of the memory that holds the list are in place exactly where those of the list are
+list-held : (n : ℕ) (m : Mem) (a : ℕ) (c : Choice) → Chooses c → not (listPasses (inPlace n) (onlyIn c (listAt m a))) ≡ any (λ s. not (inPlace n (targetAt m s))) (slotsBy c m a)
+list-held n m a c z = ap not (passes-by (inPlace n) c z m (slots a)) ∙ sym (some-fails (λ s. inPlace n (targetAt m s)) (slotsBy c m a))
+
+-- the entries that wait, by the state
+bad-held : (n : ℕ) (m : Mem) (h : Head) → listBadIn n (h .state) (listAt m (h .at)) ≡ listBad n m h
+unfolding listBad those any
+bad-held n m h = go (isWaiting h) (hasState ACTIVATING h)
+  where
+    go :
+        (a b : Bool)
+        → cond a (not (listPasses (inPlace n) (listAt m (h .at)))) (cond b (not (listPasses (inPlace n) (onlyIn marked (listAt m (h .at))))) false)
+        ≡ any (λ s. not (inPlace n (targetAt m s))) (slotsBy (cond a used (cond b marked nothing)) m (h .at))
+    go true b = ap (λ (l : List (List ℕ)). not (listPasses (inPlace n) l)) (sym (only-used m (h .at))) ∙ list-held n m (h .at) used refl
+    go false true = list-held n m (h .at) marked chooses-marked
+    go false false = refl
+
 -- the memory that holds the list has the same faults
 pub fault-held : (n : ℕ) (m : Mem) (h : Head) (l : List (List ℕ)) → l ≡ listAt m (h .at) → faultIn n l h ≡ faultOf n m h
-unfolding faultIn faultOf listBad
-fault-held n m h l e =
-    rw (e, passes-all (inPlace n) m (slots (h .at)), ← some-fails (inPlace n) m (usedSlots m (h .at)), ← gaps-are m (h .at))
+unfolding faultIn faultOf
+fault-held n m h l e = rw (e, bad-held n m h)

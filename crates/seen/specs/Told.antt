@@ -12,10 +12,10 @@ use borrow.Author.Tests.{ne-eqb}
 use Rattle.rules.specs.Lists.{seek, those, any, Each}
 use Rattle.rules.specs.Words.{Mem}
 use Rattle.rules.specs.Pages.{clumpsAt}
-use Rattle.rules.specs.Clumps.{Head, head, isPending, offsetOf, Tiles, walk}
+use Rattle.rules.specs.Clumps.{Head, head, isPending, due, offsetOf, Tiles, walk}
 use Rattle.rules.specs.Sound.{Fault, clumpFault, second, secondFault, targetFault, allValid, judge, unsettled}
 use Rattle.rules.specs.Answers.{granted, totalsFor}
-use Rattle.laws.specs.Searches.{seek-nil, seek-hit, seek-pass, seek-each, those-each}
+use Rattle.laws.specs.Searches.{seek-nil, seek-hit, seek-pass, none-seek, any-none, those-each}
 use Rattle.laws.specs.Walks.{Low, walk-low, rest-start, rest-end, clumps-tile, no-faults}
 use Rattle.laws.specs.Walking.{Inside}
 use Rattle.walk.specs.Scans.{offset-some, offset-inside}
@@ -24,13 +24,6 @@ use Rattle.seen.specs.States.{seen, numberOf, placeOf, Sees, After}
 use Rattle.seen.specs.Beginnings.{seen-after, after-sound}
 
 -- an offset that is 0 where nothing was found: the clumps lie above it
-mark-none : (p : Head → Bool) (hs : List Head) → Each Low hs → offsetOf 0 (seek p hs) ≡ 0 → seek p hs ≡ none
-mark-none p hs l e = go (seek p hs) refl
-  where
-    go : (o : Option Head) → seek p hs ≡ o → seek p hs ≡ none
-    go none q = q
-    go (some h) q = let z = seek-each Low p hs h q l in absurd (let y : h .at ≡ 0 = ap (offsetOf 0) (sym q) ∙ e in omega arith)
-
 mark-any : (p : Head → Bool) (hs : List Head) → Each Low hs → any p hs ≡ not (eqb (offsetOf 0 (seek p hs)) 0)
 unfolding any
 mark-any p [] l = rw (seek-nil p)
@@ -39,6 +32,9 @@ mark-any p (h ∷ hs) l = go (p h) refl (mark-any p hs (l .1))
     go : (b : Bool) → p h ≡ b → any p hs ≡ not (eqb (offsetOf 0 (seek p hs)) 0) → any p (h ∷ hs) ≡ not (eqb (offsetOf 0 (seek p (h ∷ hs))) 0)
     go true e ih = rw (e, seek-hit p h hs e, ne-eqb (h .at) 0 (λ z. omega (arith, l .0)))
     go false e ih = rw (e, seek-pass p h hs e) ih
+
+mark-none : (p : Head → Bool) (hs : List Head) → Each Low hs → offsetOf 0 (seek p hs) ≡ 0 → seek p hs ≡ none
+mark-none p hs l e = none-seek p hs (any-none p hs (mark-any p hs l ∙ rw e))
 
 -- fault 4 and its place
 second-is : (hs : List Head) → Each Low hs → (k : ℕ) → k ≡ placeOf (second hs) → ((k ≡ 0 → ⊥) → second hs ≡ some (record { place = k; number = 4 })) × (k ≡ 0 → second hs ≡ none)
@@ -112,11 +108,11 @@ module _ (n : ℕ) (m : Mem) (r : Seen) (e : r ≡ seen n m (walk n m)) where
         record { tiles = t; found = offset-some n m isPending t 0 (r .first) told-first f; inside = offset-inside n m isPending t 0 (r .first) told-first f }
 
     module _ (f : r .second ≡ 0) (u : Unfinished n m (r .first)) where
-      pub told-valid : allValid m (walk n m) (head m (r .first)) ≡ true → judge n m ≡ none
+      pub told-valid : allValid (due (head m (r .first))) m (walk n m) (head m (r .first)) ≡ true → judge n m ≡ none
       unfolding targetFault
       told-valid v = told-targets f ∙ rw (u .found, v)
 
-      pub told-bad : allValid m (walk n m) (head m (r .first)) ≡ false → judge n m ≡ some (record { place = r .first; number = 5 })
+      pub told-bad : allValid (due (head m (r .first))) m (walk n m) (head m (r .first)) ≡ false → judge n m ≡ some (record { place = r .first; number = 5 })
       unfolding targetFault
       told-bad v = told-targets f ∙ rw (u .found, v)
 

@@ -4,17 +4,18 @@ ghost use mathlib.Core.Path.{_≡_};
 ghost use mathlib.Core.Bool.{_||_};
 ghost use Prim.Native.Nat.{_≤_};
 ghost use lib.Dec.{eqb};
-ghost use Rattle.rules.specs.Clumps.{ACTIVATING, FREEING, RESERVED, ACTIVE};
+ghost use Rattle.rules.specs.Clumps.{ACTIVATING, FREEING, RESERVED, ACTIVE, targetOf};
 ghost use Rattle.rules.specs.Sound.{sizeBad, inPlace};
-ghost use Rattle.page.specs.Forms.{headOf};
-ghost use Rattle.seen.specs.Forms.{gapsIn, listBadIn, faultIn};
+ghost use Rattle.page.specs.Forms.{headOf, listPasses};
+ghost use Rattle.seen.specs.Forms.{listBadIn, faultIn};
 use page::CLUMPS_AT;
 use page::STATIC_AT;
 use page::STATIC_END;
 use page::clump::Clump;
+use page::entry;
 
 // Fault 1, of a header that lies in an image of n bytes.
-fn size_bad(n: usize, h: usize, c: Clump) -> bool
+pub fn size_bad(n: usize, h: usize, c: Clump) -> bool
     requires { ⌜ h ≤ n ⌝ }
     ensures { λ r. ⌜ r ≡ sizeBad n (headOf h c) ⌝ }
 {
@@ -60,46 +61,42 @@ fn in_place(n: usize, t: u64) -> bool
 }
 
 // Whether the entry is empty or its target in place.
-fn entry_in_place(n: usize, t: u64) -> bool
-    ensures { λ r. ⌜ r ≡ (eqb t 0 || inPlace n t) ⌝ }
+fn entry_in_place(n: usize, word: u64) -> bool
+    ensures { λ r. ⌜ r ≡ (eqb word 0 || inPlace n (targetOf word)) ⌝ }
 {
-    if t == 0 {
+    if word == 0 {
         return true;
     }
+    let t = entry::target_of(word);
     in_place(n, t)
 }
 
-// Whether a used entry stands after an empty one, by the three targets.
-fn gaps(t0: u64, t1: u64, t2: u64) -> bool
-    ensures { λ r. ⌜ r ≡ gapsIn t0 t1 t2 ⌝ }
+// Whether every used target of a list is in place.
+fn all_in_place(n: usize, l: [[u64; 2]; 3]) -> bool
+    ensures { λ r. ⌜ r ≡ listPasses (inPlace n) l ⌝ }
 {
-    if t0 == 0 {
-        if t1 != 0 {
-            return true;
-        }
-        return t2 != 0;
-    }
-    if t1 == 0 {
-        return t2 != 0;
-    }
-    false
-}
-
-// Fault 3, of the list of a clump whose list waits.
-fn list_bad(n: usize, l: [[u64; 2]; 3]) -> bool
-    ensures { λ r. ⌜ r ≡ listBadIn n l ⌝ }
-{
-    if gaps(l[0][0], l[1][0], l[2][0]) {
-        return true;
-    }
     let mut i: usize = 0;
     while i < 3 {
         if !entry_in_place(n, l[i][0]) {
-            return true;
+            return false;
         }
         i += 1;
     }
-    false
+    true
+}
+
+// Fault 3, by the entries that wait: all of a RESERVED or ACTIVE clump, the marked ones of an ACTIVATING one, and none of any other.
+fn list_bad(n: usize, state: u64, l: [[u64; 2]; 3]) -> bool
+    ensures { λ r. ⌜ r ≡ listBadIn n state l ⌝ }
+{
+    if waits(state) {
+        return !all_in_place(n, l);
+    }
+    if state != Clump::ACTIVATING {
+        return false;
+    }
+    let waiting = entry::marked(l);
+    !all_in_place(n, waiting)
 }
 
 // The first of the faults 1 to 3 in the clump at h, 0 for none.
@@ -113,10 +110,7 @@ pub fn fault_of(n: usize, h: usize, c: Clump, l: [[u64; 2]; 3]) -> u64
     if Clump::FREEING < c.state {
         return 2;
     }
-    if !waits(c.state) {
-        return 0;
-    }
-    if list_bad(n, l) {
+    if list_bad(n, c.state, l) {
         return 3;
     }
     0

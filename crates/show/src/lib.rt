@@ -64,13 +64,7 @@ fn behind(length: usize, at: usize, c: Clump) -> usize
     requires { ⌜ at < length ⌝ }
     ensures { λ r. ⌜ r ≡ onward length (headOf at c) ⌝ }
 {
-    if c.nbytes % 64 != 0 {
-        return length;
-    }
-    if c.nbytes < Clump::LEAST {
-        return length;
-    }
-    if ((length - at) as u64) < c.nbytes {
+    if seen::header::size_bad(length, at, c) {
         return length;
     }
     at + c.nbytes as usize

@@ -6,7 +6,8 @@ use lib.ListN.{length, getD, take}
 use Rattle.rules.specs.Words.{Image, Store, store, wordBytes, zeros}
 use Rattle.word.specs.declared.Power.{Power}
 use Rattle.word.specs.Runs.{Ran, ran-then, ran-as}
-use Rattle.page.specs.Forms.{targetOf, valueOf}
+use Rattle.rules.specs.Clumps.{targetOf}
+use Rattle.page.specs.Forms.{wordOf, valueOf}
 use Rattle.steps.specs.Lists.{assignsOf, emptiesOf, assigns-more, empties-more, assign-used, assign-empty, empty-one, empty-empty, zeros-more}
 
 module _ {img x y : Image} {p q r : Power} where
@@ -17,9 +18,9 @@ module _ {img x y : Image} {p q r : Power} where
 
   module _ (l : List (List ℕ)) (i : ℕ) (u : i < length l) where
     pub assign-step :
-        (targetOf (getD l i []) ≡ 0 → ⊥)
+        (wordOf (getD l i []) ≡ 0 → ⊥)
         → Ran img p (assignsOf (take i l)) x q
-        → Ran x q (store (targetOf (getD l i [])) (valueOf (getD l i [])) ∷ []) y r
+        → Ran x q (store (targetOf (wordOf (getD l i []))) (valueOf (getD l i [])) ∷ []) y r
         → Ran img p (assignsOf (take (i + 1) l)) y r
     assign-step h a b =
         ran-as _ _ (assigns-more l i u ∙ ap (λ (st : List Store). assignsOf (take i l) ++ st) (assign-used (getD l i []) h)) (ran-then a b)
@@ -27,7 +28,7 @@ module _ {img x y : Image} {p q r : Power} where
     pub empty-step :
         (s at : ℕ)
         → at ≡ s + 16 * i
-        → (targetOf (getD l i []) ≡ 0 → ⊥)
+        → (wordOf (getD l i []) ≡ 0 → ⊥)
         → Ran img p (emptiesOf s (take i l)) x q
         → Ran x q (store at 0 ∷ []) y r
         → Ran img p (emptiesOf s (take (i + 1) l)) y r
@@ -37,7 +38,7 @@ module _ {img x y : Image} {p q r : Power} where
         ∙ ap (λ (st : List Store). emptiesOf s (take i l) ++ st) (empty-one (s + 16 * i) (getD l i []) h ∙ ap (λ (o : ℕ). store o 0 ∷ []) (sym e)))
         (ran-then a b)
 
-module _ {img x : Image} {p q : Power} (l : List (List ℕ)) (i : ℕ) (u : i < length l) (h : targetOf (getD l i []) ≡ 0) where
+module _ {img x : Image} {p q : Power} (l : List (List ℕ)) (i : ℕ) (u : i < length l) (h : wordOf (getD l i []) ≡ 0) where
   pub assign-pass : Ran img p (assignsOf (take i l)) x q → Ran img p (assignsOf (take (i + 1) l)) x q
   assign-pass a =
       ran-as _ _

@@ -1,16 +1,18 @@
 // The runs of stores that requests are made of, each through the one store function.
-// A run asks that its words lie in the image, which its caller has judged, and says what it leaves by `Ran`.
+// A run asks that its words lie in the image, which its caller has judged, and says what it leaves by `Ran`. Those that take a list go by its
+// used entries: of a list that is carried out in part they are handed the entries that are chosen, the others empty.
 ghost use mathlib.Core.Path.{_≡_};
 ghost use mathlib.Core.List.{[], _∷_, _++_};
 ghost use Prim.Native.Nat.{_+_, _*_, _%_, _≤_, _<_};
 ghost use lib.ListN.{length};
 ghost use Rattle.rules.specs.Words.{wordBytes, wordValues, store, zeros};
-ghost use Rattle.rules.specs.Clumps.{headerBytes, slots, stateAt, ACTIVE, FREE};
+ghost use Rattle.rules.specs.Clumps.{headerBytes, slots, stateAt, ACTIVE, FREEING, FREE};
 ghost use Rattle.rules.specs.Stores.{emptying};
 ghost use Rattle.word.specs.Runs.{Ran};
 ghost use Rattle.page.specs.Forms.{InImage};
 ghost use Rattle.steps.specs.Lists.{assignsOf, emptiesOf};
 use page::clump::Clump;
+use page::entry;
 use word::Power;
 
 // 0 to each of `count` words from `from` on, upward.
@@ -55,7 +57,8 @@ pub fn assign(img: &mut [u8], p: Power, l: [[u64; 2]; 3]) -> Power
         let t = l[i][0];
         let v = l[i][1];
         if t != 0 {
-            q = word::store(img, q, t as usize, v);
+            let at = entry::target_of(t);
+            q = word::store(img, q, at as usize, v);
         }
         i += 1;
     }
@@ -106,4 +109,16 @@ pub fn finish_freeing(img: &mut [u8], p: Power, h: usize, l: [[u64; 2]; 3]) -> P
 {
     let p1 = assign(img, p, l);
     word::store(img, p1, h + 8, Clump::FREE)
+}
+
+// "state FREEING; the assignments in order; state FREE"
+pub fn carry_out(img: &mut [u8], p: Power, h: usize, l: [[u64; 2]; 3]) -> Power
+    requires { ⌜ h + headerBytes ≤ length (now img) ⌝ }
+    requires { ⌜ h % wordBytes ≡ 0 ⌝ }
+    requires { ⌜ InImage (length (now img)) l ⌝ }
+    requires { ⌜ p .made + p .left < wordValues ⌝ }
+    ensures { λ r. ⌜ Ran (now (img .entry)) p (store (stateAt h) FREEING ∷ (assignsOf l ++ (store (stateAt h) FREE ∷ []))) (now (img .exit)) r ⌝ }
+{
+    let p1 = word::store(img, p, h + 8, Clump::FREEING);
+    finish_freeing(img, p1, h, l)
 }

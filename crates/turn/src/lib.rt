@@ -1,4 +1,5 @@
-// Activate: the request that carries out the on-list of a RESERVED clump. It takes any bytes, any numbers and any fuse.
+// Activate: the request that carries out the unmarked entries of a RESERVED clump's on-list; the marked ones wait for free. It takes any
+// bytes, any numbers and any fuse.
 ghost use mathlib.Core.Path.{_≡_};
 ghost use Prim.Native.Nat.{_+_, _%_, _≤_};
 ghost use lib.ListN.{length};
@@ -9,6 +10,7 @@ ghost use Rattle.rules.specs.Requests.{activate, Does};
 ghost use Rattle.rules.specs.Reading.{clumpsOf, Tiled};
 ghost use Rattle.steps.specs.Acts.{Acts};
 use page::clump::Clump;
+use page::entry;
 use rules::Answer;
 use walk::Found;
 use word::Power;
@@ -25,12 +27,13 @@ fn activate_at(img: &mut [u8], h: usize, offset: u64, fuse: u64) -> Answer
         return answer::refusal(Answer::WRONG_STATE);
     }
     let l = Clump::list(img, h);
-    if !walk::all_valid(img, l) {
+    let due = entry::unmarked(l);
+    if !walk::all_valid(img, due) {
         return answer::refusal(Answer::BAD_TARGET);
     }
     let p = Power::new(fuse);
     let p1 = word::store(img, p, h + 8, Clump::ACTIVATING);
-    let p2 = steps::finish_activating(img, p1, h, l);
+    let p2 = steps::finish_activating(img, p1, h, due);
     answer::finish(p2, offset)
 }
 

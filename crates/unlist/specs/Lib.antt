@@ -1,2 +1,2 @@
--- What the contracts of `unlist` cite beside the rules, and the laws of withdraw.
+-- The laws of withdraw.
 pub mod Slots

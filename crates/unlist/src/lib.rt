@@ -1,34 +1,17 @@
 // Withdraw: the last used entry of a clump's on-list emptied. It takes any bytes, any numbers and any fuse.
 ghost use mathlib.Core.Path.{_≡_};
-ghost use Prim.Native.Nat.{_+_, _%_, _≤_, _<_};
+ghost use Prim.Native.Nat.{_+_, _%_, _≤_};
 ghost use lib.ListN.{length};
 ghost use Rattle.rules.specs.declared.Request.the-variants.{Withdraw};
-ghost use Rattle.rules.specs.Words.{wordBytes, wordValues, mem};
+ghost use Rattle.rules.specs.Words.{wordBytes, mem};
 ghost use Rattle.rules.specs.Clumps.{head, headerBytes};
 ghost use Rattle.rules.specs.Requests.{withdraw, Does};
 ghost use Rattle.steps.specs.Acts.{Acts};
-ghost use Rattle.unlist.specs.Slots.{lastIn};
 use page::clump::Clump;
+use page::entry;
 use rules::Answer;
 use walk::Found;
 use word::Power;
-
-// The target word of the last used entry of the clump at h, or 0 where the list is empty.
-fn last_slot(h: usize, l: [[u64; 2]; 3]) -> usize
-    requires { ⌜ h + headerBytes < wordValues ⌝ }
-    ensures { λ r. ⌜ r ≡ lastIn h l ⌝ }
-{
-    if l[2][0] != 0 {
-        return h + 48;
-    }
-    if l[1][0] != 0 {
-        return h + 32;
-    }
-    if l[0][0] != 0 {
-        return h + 16;
-    }
-    0
-}
 
 // The last used entry of the clump at h emptied.
 fn withdraw_at(img: &mut [u8], h: usize, offset: u64, fuse: u64) -> Answer
@@ -41,12 +24,12 @@ fn withdraw_at(img: &mut [u8], h: usize, offset: u64, fuse: u64) -> Answer
         return answer::refusal(Answer::WRONG_STATE);
     }
     let l = Clump::list(img, h);
-    let s = last_slot(h, l);
-    if s == 0 {
+    let k = entry::reach(l);
+    if k == 0 {
         return answer::refusal(Answer::LIST_EMPTY);
     }
     let p = Power::new(fuse);
-    let p1 = word::store(img, p, s, 0);
+    let p1 = word::store(img, p, h + 16 * k, 0);
     answer::finish(p1, offset)
 }
 

@@ -12,16 +12,17 @@ use borrow.Author.Tests.{lt-leb, le-leb, ne-eqb}
 use Rattle.rules.specs.Lists.{seek}
 use Rattle.rules.specs.Words.{Mem}
 use Rattle.rules.specs.Pages.{clumpsAt}
-use Rattle.rules.specs.Clumps.{Head, head, bodyOf, slots, Tiles, walk, offsetOf}
+use Rattle.rules.specs.Clumps.{Head, head, stateAt, bodyOf, slots, Choice, targetOf, due, Tiles, walk, offsetOf}
 use Rattle.rules.specs.Sound.{lies, isValid, allValid}
 use Rattle.rules.specs.Requests.{finder, belowOf, finding}
 use Rattle.word.specs.Tests.{leb-same}
 use Rattle.laws.specs.Searches.{and-both}
 use Rattle.laws.specs.Walking.{Inside, seek-placed}
 use Rattle.laws.specs.Lying.{valid-in}
+use Rattle.laws.specs.Choices.{Chooses, chooses-due}
 use Rattle.walk.specs.Forms.{foundOf, listValid}
-use Rattle.page.specs.Forms.{targetOf, listAt, listPasses, InImage}
-use Rattle.page.specs.Slots.{passes-all}
+use Rattle.page.specs.Forms.{wordOf, listAt, onlyIn, dueIn, listPasses, InImage}
+use Rattle.page.specs.Slots.{due-is, passes-by}
 use Rattle.walk.specs.declared.Found.{Found}
 use Rattle.walk.specs.declared.Found.the-variants.{At, Nothing}
 
@@ -96,17 +97,25 @@ module _ (n : ℕ) (m : Mem) (body : ℕ) (tiles : Tiles clumpsAt (walk n m) n) 
           let s : k ≡ head m h = i .head-is ∙ ap (head m) a in
           record { found = q ∙ ap {B = Option Head} some s; under = sym d ∙ ap (belowOf (walk n m)) s; inside = subst (Inside n m) a (i .inside) }
 
--- the list that was read from a clump
-pub list-valid : (m : Mem) (hs : List Head) (a : ℕ) (l : List (List ℕ)) → l ≡ listAt m a → listValid hs l ≡ allValid m hs (head m a)
+-- the chosen entries of the list that was read from a clump
+pub list-valid :
+    (c : Choice) → Chooses c → (m : Mem) (hs : List Head) (a : ℕ) (l : List (List ℕ)) → l ≡ onlyIn c (listAt m a) → listValid hs l ≡ allValid c m hs (head m a)
 unfolding allValid
-list-valid m hs a l e = rw e (passes-all (isValid hs) m (slots a))
+list-valid c z m hs a l e = rw e (passes-by (isValid hs) c z m (slots a))
+
+-- those that are due in the unfinished clump at a, by its state and its list as they were read
+pub due-valid :
+    (m : Mem) (hs : List Head) (a s : ℕ) (l k : List (List ℕ)) → s ≡ m (stateAt a) → l ≡ listAt m a → k ≡ dueIn s l → listValid hs k ≡ allValid (due (head m a)) m hs (head m a)
+due-valid m hs a s l k e f g =
+    list-valid (due (head m a)) (chooses-due (head m a)) m hs a k (g ∙ ap (λ (w : ℕ). dueIn w l) e ∙ due-is m (head m a) l f)
 
 -- the used targets of a valid list lie in the image
-valid-at : (hs : List Head) (l : List (List ℕ)) (i : ℕ) → listValid hs l ≡ true → (targetOf (getD l i []) ≡ 0 → ⊥) → isValid hs (targetOf (getD l i [])) ≡ true
+valid-at :
+    (hs : List Head) (l : List (List ℕ)) (i : ℕ) → listValid hs l ≡ true → (wordOf (getD l i []) ≡ 0 → ⊥) → isValid hs (targetOf (wordOf (getD l i []))) ≡ true
 unfolding listPasses
 valid-at hs [] i e h = absurd (h refl)
-valid-at hs (x ∷ l) zero e h = rw (ne-eqb (targetOf x) 0 h) at (and-both (eqb (targetOf x) 0 || isValid hs (targetOf x)) (listValid hs l) e .0)
-valid-at hs (x ∷ l) (suc i) e h = valid-at hs l i (and-both (eqb (targetOf x) 0 || isValid hs (targetOf x)) _ e .1) h
+valid-at hs (x ∷ l) zero e h = rw (ne-eqb (wordOf x) 0 h) at (and-both (eqb (wordOf x) 0 || isValid hs (targetOf (wordOf x))) (listValid hs l) e .0)
+valid-at hs (x ∷ l) (suc i) e h = valid-at hs l i (and-both (eqb (wordOf x) 0 || isValid hs (targetOf (wordOf x))) _ e .1) h
 
 pub list-in : (n : ℕ) (m : Mem) (l : List (List ℕ)) → Tiles clumpsAt (walk n m) n → listValid (walk n m) l ≡ true → InImage n l
-list-in n m l t e i u h = valid-in n m (targetOf (getD l i [])) t (valid-at (walk n m) l i e h)
+list-in n m l t e i u h = valid-in n m (targetOf (wordOf (getD l i []))) t (valid-at (walk n m) l i e h)

@@ -1,23 +1,25 @@
-// Searches over the clumps of an image. Each asks that the clumps tile, as they do in every image that is judged sound: it may be
-// called once `judge` has found no fault.
+// Searches over the clumps of an image, and the bytes of one that is FREE. Each search asks that the clumps tile, as they do in every image
+// that is judged sound: it may be called once `judge` has found no fault.
 ghost use mathlib.Core.Path.{_≡_};
 ghost use mathlib.Core.Bool.{_||_};
-ghost use Prim.Native.Nat.{_+_, _%_, _<_};
+ghost use Prim.Native.Nat.{_+_, _%_, _≤_, _<_};
 ghost use lib.ListN.{length};
 ghost use lib.Dec.{eqb, leb};
 ghost use Rattle.rules.specs.Lists.{seek, any};
-ghost use Rattle.rules.specs.Words.{wordValues};
-ghost use Rattle.rules.specs.Clumps.{headerBytes, offsetOf};
+ghost use Rattle.rules.specs.Words.{wordBytes, wordValues, mem};
+ghost use Rattle.rules.specs.Clumps.{headerBytes, targetOf, offsetOf};
 ghost use Rattle.rules.specs.Sound.{lies, holdsWord, isValid};
 ghost use Rattle.rules.specs.Stores.{needOf, fits};
 ghost use Rattle.rules.specs.Requests.{finding};
 ghost use Rattle.rules.specs.Reading.{clumpsOf, Tiled};
 ghost use Rattle.page.specs.Forms.{headOf};
 ghost use Rattle.walk.specs.Forms.{foundOf, listValid};
+ghost use Rattle.walk.specs.Beside.{freeBytes};
 use page::CLUMPS_AT;
 use page::STATIC_AT;
 use page::STATIC_END;
 use page::clump::Clump;
+use page::entry;
 
 // The clump that has its body at an offset: the offset of its header, and that of the clump before it, or 0 for the first clump.
 pub enum Found {
@@ -138,14 +140,15 @@ pub fn valid(img: &[u8], t: u64) -> bool
     in_body(img, t)
 }
 
-// Whether a target is valid now, or its entry is empty.
-fn entry_valid(img: &[u8], t: u64) -> bool
+// Whether the target of an entry is valid now, or the entry is empty.
+fn entry_valid(img: &[u8], word: u64) -> bool
     requires { ⌜ Tiled (now img) ⌝ }
-    ensures { λ r. ⌜ r ≡ (eqb t 0 || isValid (clumpsOf (now (img .entry))) t) ⌝ }
+    ensures { λ r. ⌜ r ≡ (eqb word 0 || isValid (clumpsOf (now (img .entry))) (targetOf word)) ⌝ }
 {
-    if t == 0 {
+    if word == 0 {
         return true;
     }
+    let t = entry::target_of(word);
     valid(img, t)
 }
 
@@ -162,4 +165,22 @@ pub fn all_valid(img: &[u8], l: [[u64; 2]; 3]) -> bool
         i += 1;
     }
     true
+}
+
+// nbytes of the clump at an offset if it is FREE, else 0; 0 also where no clump stands: at 0, below the first, and behind the last.
+pub fn free_bytes(img: &[u8], at: usize) -> u64
+    requires { ⌜ ((at ≡ 0 → ⊥) → at < length (now img) → (at % wordBytes ≡ 0) × (at + headerBytes ≤ length (now img))) ⌝ }
+    ensures { λ r. ⌜ r ≡ freeBytes (length (now (img .entry))) (mem (now (img .entry))) at ⌝ }
+{
+    if at == 0 {
+        return 0;
+    }
+    if img.len() <= at {
+        return 0;
+    }
+    let c = Clump::read(img, at);
+    if c.state != Clump::FREE {
+        return 0;
+    }
+    c.nbytes
 }

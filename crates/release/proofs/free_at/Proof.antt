@@ -5,7 +5,7 @@ use Rattle.rules.specs.Words.{mem}
 use Rattle.rules.specs.Clumps.{head}
 use Rattle.rules.specs.Reading.{clumpsOf}
 use Rattle.steps.specs.Acts.{acts-same, acts-refused}
-use Rattle.release.specs.Releases.{may-drop, drop-valid, free-state, free-bad, free-done}
+use Rattle.release.specs.Releases.{may-drop, free-state, free-bad, free-done}
 use borrow.Author.Needs.{needs}
 use Rattle.release.proofs.free_at.Statement.{statement}
 use Rattle.release.proofs.free_at.Tie as tie
@@ -41,7 +41,7 @@ returns-2 : tie.Need-returns-2
 returns-2 c = rw (c .refusal2 .ensures) (acts-same _ _ (free-bad (mem (c .before .before .before .before .before .before .before .before .before .before .before .args .img .now)) (clumpsOf (c .before .before .before .before .before .before .before .before .before .before .before .args .img .now)) (c .before .before .before .before .before .before .before .before .before .before .before .args .offset) (head (mem (c .before .before .before .before .before .before .before .before .before .before .before .args .img .now)) (c .before .before .before .before .before .before .before .before .before .before .before .args .h)) (let x = c .before .before .before .before .before .before .before .before .read .ensures .1 in let y = not-false (c .before .before .before .before .before .before .before .waits .result) (c .before .before .before .before .before .before .if1 .left) in cc) (sym (may-drop (mem (c .before .before .before .before .before .before .before .before .before .before .before .args .img .now)) _ (c .before .before .before .before .before .before .before .before .before .before .before .args .h) _ _ (c .before .before .before .before .before .before .before .before .read .ensures .1) (c .before .before .before .before .list .ensures)) ∙ sym (c .before .before .may-drop .ensures) ∙ not-true _ (c .before .if2 .taken))) (acts-refused _ _ _ _ _))
 
 release-requires : tie.Need-release-requires
-release-requires c κs = record { tiles = c .before .before .before .before .before .before .before .before .before .before .before .pre .0; finds = c .before .before .before .before .before .before .before .before .before .before .before .pre .1; size = c .before .before .before .before .before .before .before .before .read .ensures .0; is = c .before .before .before .before .before .before .before .before .read .ensures .1; list = c .before .before .before .before .list .ensures; small = search needs; valid = drop-valid _ _ (sym (c .before .before .may-drop .ensures) ∙ not-false _ (c .before .if2 .left)) }
+release-requires c κs = record { tiles = c .before .before .before .before .before .before .before .before .before .before .before .pre .0; finds = c .before .before .before .before .before .before .before .before .before .before .before .pre .1; size = c .before .before .before .before .before .before .before .before .read .ensures .0; is = c .before .before .before .before .before .before .before .before .read .ensures .1; list = c .before .before .before .before .list .ensures; small = search needs; valid = sym (c .before .before .may-drop .ensures) ∙ not-false _ (c .before .if2 .left) }
 
 same-length-3 : tie.Need-same-length-3
 same-length-3 c = search needs

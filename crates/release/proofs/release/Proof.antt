@@ -28,7 +28,7 @@ new-requires c κs = search needs
 drop-list-requires : tie.Need-drop-list-requires
 drop-list-requires c κs = let s = c .before .before .before .before .before .before .before .before in
     let i = s .pre .finds .inside in
-    (omega arith, (omega arith, ((λ a. list-in _ _ _ (s .pre .tiles) (s .pre .valid a)), rw (c .before .new .ensures) (omega (arith, s .fits .fuse)))))
+    (omega arith, (omega arith, (list-in _ _ _ (s .pre .tiles) (s .pre .valid), rw (c .before .new .ensures) (omega (arith, s .fits .fuse)))))
 
 store-if-requires : tie.Need-store-if-requires
 store-if-requires c κs = let s = c .before .before .before .before .before .before .before .before .before .before .before .before in

@@ -40,8 +40,13 @@ index-1-v c = search needs
 index-2-v : tie.Need-index-2-v Inv-loop μ-loop
 index-2-v c = search needs
 
+target-of-requires : tie.Need-target-of-requires Inv-loop μ-loop
+target-of-requires c κs = tt
+
 store-requires : tie.Need-store-requires Inv-loop μ-loop
-store-requires c κs = omega (arith, c .before .before .before .before .before .before .before .pre .0 (c .before .before .before .before .before .loop .i) (search needs) (c .before .if1 .taken), c .before .before .before .before .before .loop .inv .1 .sum, c .before .before .before .before .before .loop .inv .1 .long)
+store-requires c κs = let w = c .before .before .before .before .before .before in
+    let t = c .before .target-of .ensures in
+    omega (arith, w .before .before .pre .0 (w .loop .i) (search needs) (c .before .before .if1 .taken), w .loop .inv .1 .sum, w .loop .inv .1 .long)
 
 add-i : tie.Need-add-i Inv-loop μ-loop
 add-i c = search needs
@@ -50,7 +55,7 @@ loop-less : tie.Need-loop-less Inv-loop μ-loop
 loop-less c = search needs
 
 loop-again : tie.Need-loop-again Inv-loop μ-loop
-loop-again c = ⊎-elim (λ w. rw (w .5, w .6) (omega arith, assign-step (c .before .before .before .before .before .before .args .t3) (c .before .before .before .before .loop .i) (search needs) (w .0 .taken) (c .before .before .before .before .loop .inv .1) (w .2 .ensures)))
+loop-again c = ⊎-elim (λ w. rw (w .6, w .7) (omega arith, assign-step (c .before .before .before .before .before .before .args .t3) (c .before .before .before .before .loop .i) (search needs) (w .0 .taken) (c .before .before .before .before .loop .inv .1) (rw (w .1 .ensures) at (w .3 .ensures))))
     (λ w. rw (w .1, w .2) (omega arith, assign-pass (c .before .before .before .before .before .before .args .t3) (c .before .before .before .before .loop .i) (search needs) (w .0 .left) (c .before .before .before .before .loop .inv .1)))
     (c .if1 .came)
 
@@ -74,6 +79,7 @@ assign-spec =
     mul-v
     index-1-v
     index-2-v
+    target-of-requires
     store-requires
     add-i
     loop-less

@@ -1,11 +1,13 @@
 -- `activate_at`: a law for each way out. Assumes nothing.
 use native.Mathlib.Omega.{arith}
 use borrow.Author.Tests.{eq-eqb, ne-eqb, not-true, not-false}
-use mathlib.Core.Path.{sym, _∙_}
+use mathlib.Core.Path.{sym, ap, _∙_}
 use Rattle.rules.specs.Words.{mem}
-use Rattle.rules.specs.Clumps.{head}
+use Rattle.rules.specs.Clumps.{head, unmarked}
 use Rattle.rules.specs.Reading.{clumpsOf}
+use Rattle.laws.specs.Choices.{chooses-unmarked}
 use Rattle.word.specs.Runs.{ran-then}
+use Rattle.page.specs.Forms.{onlyIn}
 use Rattle.walk.specs.Scans.{list-valid, list-in}
 use Rattle.steps.specs.Acts.{acts-same, acts-refused, acts-ran}
 use Rattle.turn.specs.Turns.{activate-state, activate-bad, activate-done}
@@ -23,10 +25,15 @@ same-length : tie.Need-same-length
 same-length c = search needs
 
 returns : tie.Need-returns
-returns c = rw (c .refusal .ensures) (acts-same _ _ (activate-state (mem (c .before .before .before .before .before .before .args .img .now)) (clumpsOf (c .before .before .before .before .before .before .args .img .now)) (c .before .before .before .before .before .before .args .offset) (head (mem (c .before .before .before .before .before .before .args .img .now)) (c .before .before .before .before .before .before .args .h)) (let x = c .before .before .before .read .ensures .1 in cc (ne-eqb (c .before .before .before .read .result .state) 1 (c .before .if1 .taken)))) (acts-refused _ _ _ _ _))
+returns c = let a = c .before .before .before .before .before .before .args in
+    let m = mem (a .img .now) in
+    rw (c .refusal .ensures) (acts-same _ _ (activate-state m (clumpsOf (a .img .now)) (a .offset) (head m (a .h)) (let x = c .before .before .before .read .ensures .1 in cc (ne-eqb (c .before .before .before .read .result .state) 1 (c .before .if1 .taken)))) (acts-refused _ _ _ _ _))
 
 list-requires : tie.Need-list-requires
 list-requires c κs = search needs
+
+unmarked-requires : tie.Need-unmarked-requires
+unmarked-requires c κs = search needs
 
 all-valid-requires : tie.Need-all-valid-requires
 all-valid-requires c κs = search needs
@@ -38,7 +45,10 @@ same-length-2 : tie.Need-same-length-2
 same-length-2 c = search needs
 
 returns-2 : tie.Need-returns-2
-returns-2 c = rw (c .refusal2 .ensures) (acts-same _ _ (activate-bad (mem (c .before .before .before .before .before .before .before .before .before .before .before .args .img .now)) (clumpsOf (c .before .before .before .before .before .before .before .before .before .before .before .args .img .now)) (c .before .before .before .before .before .before .before .before .before .before .before .args .offset) (head (mem (c .before .before .before .before .before .before .before .before .before .before .before .args .img .now)) (c .before .before .before .before .before .before .before .before .before .before .before .args .h)) (let x = c .before .before .before .before .before .before .before .before .read .ensures .1 in cc (eq-eqb (c .before .before .before .before .before .before .before .before .read .result .state) 1 (c .before .before .before .before .before .before .if1 .left))) (sym (list-valid _ _ _ _ (c .before .before .before .before .list .ensures)) ∙ sym (c .before .before .all-valid .ensures) ∙ not-true _ (c .before .if2 .taken))) (acts-refused _ _ _ _ _))
+returns-2 c = let a = c .before .before .before .before .before .before .before .before .before .before .before .before .args in
+    let m = mem (a .img .now) in
+    let e = c .before .before .before .before .unmarked .ensures ∙ ap (onlyIn unmarked) (c .before .before .before .before .before .list .ensures) in
+    rw (c .refusal2 .ensures) (acts-same _ _ (activate-bad m (clumpsOf (a .img .now)) (a .offset) (head m (a .h)) (let x = c .before .before .before .before .before .before .before .before .before .read .ensures .1 in cc (eq-eqb (c .before .before .before .before .before .before .before .before .before .read .result .state) 1 (c .before .before .before .before .before .before .before .if1 .left))) (sym (list-valid unmarked chooses-unmarked m _ (a .h) _ e) ∙ sym (c .before .before .all-valid .ensures) ∙ not-true _ (c .before .if2 .taken))) (acts-refused _ _ _ _ _))
 
 new-requires : tie.Need-new-requires
 new-requires c κs = search needs
@@ -47,12 +57,11 @@ add-store : tie.Need-add-store
 add-store c = search needs
 
 store-requires : tie.Need-store-requires
-store-requires c κs = let f = c .before .new .ensures in (search needs, (search needs, rw f (omega (arith, c .before .before .before .before .before .before .before .before .before .before .before .before .fits .fuse))))
+store-requires c κs = (search needs, (search needs, rw (c .before .new .ensures) (omega (arith, c .before .before .before .before .before .before .before .before .before .before .before .before .before .fits .fuse))))
 
 finish-activating-requires : tie.Need-finish-activating-requires
-finish-activating-requires c κs = let f = c .before .before .before .before .before .new .ensures in
-    let e = c .before .before .before .store .ensures .long in
-    (omega arith, (omega arith, (rw e (list-in _ _ _ (c .before .before .before .before .before .before .before .before .before .before .before .before .before .before .before .before .pre .0) (sym (c .before .before .before .before .before .before .before .all-valid .ensures) ∙ not-false _ (c .before .before .before .before .before .before .if2 .left))), rw (c .before .before .before .store .ensures .sum, f) (omega (arith, c .before .before .before .before .before .before .before .before .before .before .before .before .before .before .before .before .fits .fuse)))))
+finish-activating-requires c κs = let s = c .before .before .before .store .ensures in
+    (omega (arith, s .long, c .before .before .before .before .before .before .before .before .before .before .before .before .before .before .before .before .before .pre), (omega (arith, c .before .before .before .before .before .before .before .before .before .before .before .before .before .before .before .before .before .pre), (rw (s .long) (list-in _ _ _ (c .before .before .before .before .before .before .before .before .before .before .before .before .before .before .before .before .before .pre .0) (sym (c .before .before .before .before .before .before .before .all-valid .ensures) ∙ not-false _ (c .before .before .before .before .before .before .if2 .left))), rw (s .sum, c .before .before .before .before .before .new .ensures) (omega (arith, c .before .before .before .before .before .before .before .before .before .before .before .before .before .before .before .before .before .fits .fuse)))))
 
 finish-requires : tie.Need-finish-requires
 finish-requires c κs = search needs
@@ -61,7 +70,10 @@ same-length-3 : tie.Need-same-length-3
 same-length-3 c = search needs
 
 returns-3 : tie.Need-returns-3
-returns-3 c = acts-same _ _ (activate-done (mem (c .before .before .before .before .before .before .before .before .before .before .before .before .before .before .before .before .before .before .before .before .args .img .now)) (clumpsOf (c .before .before .before .before .before .before .before .before .before .before .before .before .before .before .before .before .before .before .before .before .args .img .now)) (c .before .before .before .before .before .before .before .before .before .before .before .before .before .before .before .before .before .before .before .before .args .offset) (head (mem (c .before .before .before .before .before .before .before .before .before .before .before .before .before .before .before .before .before .before .before .before .args .img .now)) (c .before .before .before .before .before .before .before .before .before .before .before .before .before .before .before .before .before .before .before .before .args .h)) (let x = c .before .before .before .before .before .before .before .before .before .before .before .before .before .before .before .before .before .read .ensures .1 in cc (eq-eqb (c .before .before .before .before .before .before .before .before .before .before .before .before .before .before .before .before .before .read .result .state) 1 (c .before .before .before .before .before .before .before .before .before .before .before .before .before .before .before .if1 .left))) (sym (list-valid _ _ _ _ (c .before .before .before .before .before .before .before .before .before .before .before .before .before .list .ensures)) ∙ sym (c .before .before .before .before .before .before .before .before .before .before .before .all-valid .ensures) ∙ not-false _ (c .before .before .before .before .before .before .before .before .before .before .if2 .left)) _ (c .before .before .before .before .before .before .before .before .before .before .before .before .before .list .ensures))
+returns-3 c = let a = c .before .before .before .before .before .before .before .before .before .before .before .before .before .before .before .before .before .before .before .before .before .args in
+    let m = mem (a .img .now) in
+    let e = c .before .before .before .before .before .before .before .before .before .before .before .before .before .unmarked .ensures ∙ ap (onlyIn unmarked) (c .before .before .before .before .before .before .before .before .before .before .before .before .before .before .list .ensures) in
+    acts-same _ _ (activate-done m (clumpsOf (a .img .now)) (a .offset) (head m (a .h)) (let x = c .before .before .before .before .before .before .before .before .before .before .before .before .before .before .before .before .before .before .read .ensures .1 in cc (eq-eqb (c .before .before .before .before .before .before .before .before .before .before .before .before .before .before .before .before .before .before .read .result .state) 1 (c .before .before .before .before .before .before .before .before .before .before .before .before .before .before .before .before .if1 .left))) (sym (list-valid unmarked chooses-unmarked m _ (a .h) _ e) ∙ sym (c .before .before .before .before .before .before .before .before .before .before .before .all-valid .ensures) ∙ not-false _ (c .before .before .before .before .before .before .before .before .before .before .if2 .left)) _ e)
     (acts-ran _ _ (ran-then (rw (c .before .before .before .before .before .before .before .before .before .new .ensures) at (c .before .before .before .before .before .before .before .store .ensures)) (c .before .before .before .finish-activating .ensures)) (c .finish .ensures))
 
 pub activate-at-spec : {M : Type 1} → statement M
@@ -73,6 +85,7 @@ activate-at-spec =
     same-length
     returns
     list-requires
+    unmarked-requires
     all-valid-requires
     refusal-requires-2
     same-length-2

@@ -1,8 +1,7 @@
 -- `fault_of`: a law for each way out. Assumes nothing.
 use mathlib.Core.Path.{sym, _∙_}
 use mathlib.Core.Bool.{true, false}
-use borrow.Author.Tests.{not-true, not-false}
-use Rattle.seen.specs.Judging.{fault-size, fault-state, fault-idle, fault-list}
+use Rattle.seen.specs.Judging.{fault-size, fault-state, fault-list}
 use borrow.Author.Needs.{needs}
 use Rattle.seen.proofs.header.fault_of.Statement.{statement}
 use Rattle.seen.proofs.header.fault_of.Tie as tie
@@ -17,35 +16,17 @@ returns-2 : tie.Need-returns-2
 returns-2 c = let e = c .before .before in
     fault-state _ _ _ (sym (e .before .size-bad .ensures) ∙ e .if1 .left) (c .if2 .taken)
 
-waits-requires : tie.Need-waits-requires
-waits-requires c κs = search needs
-
-returns-3 : tie.Need-returns-3
-returns-3 c = let e = c .before .before .before .before in
-    fault-idle _ _ _ (sym (e .before .size-bad .ensures) ∙ e .if1 .left) (c .before .before .if2 .left) (sym (c .before .waits .ensures) ∙ not-true _ (c .if3 .taken))
-
 list-bad-requires : tie.Need-list-bad-requires
 list-bad-requires c κs = search needs
 
-returns-4 : tie.Need-returns-4
-returns-4 c = let w = c .before .before in
-    let e = w .before .before .before .before in
-    fault-list _ _ _ (sym (e .before .size-bad .ensures) ∙ e .if1 .left) (w .before .before .if2 .left) true (sym (w .before .waits .ensures) ∙ not-false _ (w .if3 .left)) (sym (c .if4 .taken) ∙ c .before .list-bad .ensures)
+returns-3 : tie.Need-returns-3
+returns-3 c = let e = c .before .before .before .before in
+    fault-list _ _ _ (sym (e .before .size-bad .ensures) ∙ e .if1 .left) (c .before .before .if2 .left) true (sym (c .if3 .taken) ∙ c .before .list-bad .ensures)
 
-returns-5 : tie.Need-returns-5
-returns-5 c = let w = c .before .before in
-    let e = w .before .before .before .before in
-    fault-list _ _ _ (sym (e .before .size-bad .ensures) ∙ e .if1 .left) (w .before .before .if2 .left) false (sym (w .before .waits .ensures) ∙ not-false _ (w .if3 .left)) (sym (c .if4 .left) ∙ c .before .list-bad .ensures)
+returns-4 : tie.Need-returns-4
+returns-4 c = let e = c .before .before .before .before in
+    fault-list _ _ _ (sym (e .before .size-bad .ensures) ∙ e .if1 .left) (c .before .before .if2 .left) false (sym (c .if3 .left) ∙ c .before .list-bad .ensures)
 
 pub fault-of-spec : {M : Type 1} → statement M
 fault-of-spec =
-    tie.close
-    (tie.spec
-    size-bad-requires
-    returns
-    returns-2
-    waits-requires
-    returns-3
-    list-bad-requires
-    returns-4
-    returns-5)
+    tie.close (tie.spec size-bad-requires returns returns-2 list-bad-requires returns-3 returns-4)

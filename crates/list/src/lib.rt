@@ -79,5 +79,5 @@ pub fn onfree(img: &mut [u8], offset: u64, target: u64, value: u64, fuse: u64) -
     };
     let c = Clump::read(img, h);
     let allowed = seen::header::waits(c.state);
-    enlist_at(img, h, allowed, offset, target, 1, value, fuse)
+    enlist_at(img, h, allowed, offset, target, entry::MARK, value, fuse)
 }

@@ -6,6 +6,9 @@ ghost use Rattle.rules.specs.Clumps.{targetOf, marked, unmarked};
 ghost use Rattle.page.specs.Forms.{hasBit, onlyIn, dueIn, reachOf};
 use crate::clump::Clump;
 
+// Bit 0 of a target word: an entry of onfree's.
+pub const MARK: u64 = 1;
+
 // The target: the number without the mark.
 pub fn target_of(word: u64) -> u64
     ensures { λ r. ⌜ r ≡ targetOf word ⌝ }
@@ -37,7 +40,7 @@ fn only(l: [[u64; 2]; 3], bit: u64) -> [[u64; 2]; 3]
 pub fn marked(l: [[u64; 2]; 3]) -> [[u64; 2]; 3]
     ensures { λ r. ⌜ r ≡ onlyIn marked l ⌝ }
 {
-    only(l, 1)
+    only(l, MARK)
 }
 
 // The unmarked entries that are used.

@@ -25,6 +25,7 @@ use Rattle.laws.specs.Walks.{map-none, or-else-none}
 use Rattle.laws.specs.Choices.{target-plain}
 use Rattle.laws.specs.Headers.{map-same}
 use Rattle.laws.specs.Mending.{others-idle}
+use Rattle.laws.specs.Lying.{valid-even}
 
 -- an entry that is empty, or whose word is divisible by 8, is not marked
 even-plain : (t : ℕ) → (used t ≡ true → t % wordBytes ≡ 0) → marked t ≡ false
@@ -57,10 +58,6 @@ plain-test p f m (s ∷ sl) e = go (isUsed m s) refl e (plain-test p f m sl)
 place-even : (n t : ℕ) → inPlace n t ≡ true → t % wordBytes ≡ 0
 unfolding inPlace
 place-even n t e = eqb-true (t % wordBytes) 0 (and-both (isEven t) _ e .0)
-
-valid-even : (hs : List Head) (t : ℕ) → isValid hs t ≡ true → t % wordBytes ≡ 0
-unfolding isValid
-valid-even hs t e = eqb-true (t % wordBytes) 0 (and-both (isEven t) _ e .0)
 
 -- without a gap
 open-first : (m : Mem) (sl : List ℕ) → gapped01 m sl ≡ false → openSlot m sl ≡ seek (isEmpty m) sl

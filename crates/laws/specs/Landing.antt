@@ -1,7 +1,7 @@
 -- Where the stores of a request land: in the header of a clump, in the FREE clump that is split, or at the words that the list being
 -- carried out names; create's apart. What holds of every such store holds of each store of the request. By cases on the requests.
 -- Assumes nothing.
-use Prim.Native.Nat.{ℕ, _%_, _<_}
+use Prim.Native.Nat.{ℕ, _<_}
 use mathlib.Core.Path.{_≡_, refl, ap, _∙_}
 use mathlib.Core.Bool.{Bool, true, false, not, cond}
 use mathlib.Core.Option.{Option, some, none}
@@ -12,10 +12,10 @@ use borrow.Author.Tests.{eqb-true, leb-true, not-false}
 use Rattle.rules.specs.declared.Request.{Request}
 use Rattle.rules.specs.declared.Request.the-variants.{Create, Reserve, Onactive, Onfree, Withdraw, Activate, Free, Check, Recover}
 use Rattle.rules.specs.Lists.{seek, those, Each}
-use Rattle.rules.specs.Words.{Mem, Store, store, wordBytes, wordValues}
+use Rattle.rules.specs.Words.{Mem, Store, store, wordValues}
 use Rattle.rules.specs.Pages.{clumpsAt, rightLength}
 use Rattle.rules.specs.Clumps.{Head, endOf, isFree, isWaiting, isPending, slots, Choice, used, marked, unmarked, withMark, due, freed, slotsBy, entriesBy, hasState, FREE, RESERVED, ACTIVATING, ACTIVE, FREEING, walk, nextOf, beforeOf}
-use Rattle.rules.specs.Sound.{isEven, isValid, allValid}
+use Rattle.rules.specs.Sound.{isValid, allValid}
 use Rattle.rules.specs.Answers.{Verdict, storesOf, ifSettled, notPool, sizeZero, wrongState, badTarget}
 use Rattle.rules.specs.Stores.{setState, createStores, needOf, fits, finishActivating, finishFreeing, activateStores, hasMarked, dropStores, emptying, freeAfter, freeBefore, joinBoth, freeStores, finishing, releasing, released, runs, joining, recoverStores}
 use Rattle.rules.specs.Requests.{Numbers, placed, reserve, finder, found, openSlot, enlist, withdraw, activate, free, verdict}
@@ -28,7 +28,7 @@ use Rattle.laws.specs.Mending.{targets-valid, tiles-released}
 use Rattle.laws.specs.Needs.{need-even}
 use Rattle.laws.specs.Behind.{behind-test, behind-sound, behind-settled, behind-found}
 use Rattle.laws.specs.Pools.{Sound, pool-length, pool-tiles}
-use Rattle.laws.specs.Lying.{Lies, all-lie}
+use Rattle.laws.specs.Lying.{Lies, all-lie, valid-even}
 use Rattle.laws.specs.Spans.{runs-tile, runs-first}
 use Rattle.laws.specs.Choices.{mark-word, open-each}
 use Rattle.laws.specs.Taking.{Takes, Slot, slots-in, chosen-in, In, state-lands, size-lands, emptying-lands, reserve-lands, listed-lands, withdrawn-lands, activated-lands, freed-lands, both-lands, joining-lands}
@@ -57,11 +57,6 @@ module _ (P : Store → Type 0) (N : Type 0) (n : ℕ) (m : Mem) (heads : Sound 
   enlist-lands a p t u v h i k l =
       behind-test (Each P) tt (not (a h)) wrongState _
       (λ z. listed-lands P N n h i (isValid (walk n m) t) (openSlot m (slots (h .at))) p u v (λ x e. open-each m (Slot h) (slots (h .at)) x e (slots-in n h (i .0))) k l)
-
-  -- a valid target is divisible by 8, so that it has room for its mark
-  marked-word : (t : ℕ) → isValid (walk n m) t ≡ true → t < wordValues → withMark t < wordValues
-  unfolding isValid
-  marked-word t e l = mark-word t (eqb-true (t % wordBytes) 0 (and-both (isEven t) _ e .0)) l
 
   withdraw-lands : (p : ℕ) (h : Head) → In P N n h → Each P (storesOf (withdraw m p h))
   unfolding withdraw
@@ -150,7 +145,7 @@ module _ (P : Store → Type 0) (N : Type 0) (n : ℕ) (m : Mem) (heads : Sound 
   lands Create k c f = behind-test (Each P) tt (not (rightLength n)) notPool _ (λ e. c refl (not-false _ e))
   lands (Reserve size) k c f = behind-settled (Each P) tt n m _ (λ s u. behind-test (Each P) tt (eqb size 0) sizeZero _ (λ z. placed-lands s size (seek (fits (needOf size)) (walk n m)) refl))
   lands (Onactive o t v) k c f = asked-lands o _ (λ s h e i. enlist-lands (hasState RESERVED) o t t v h i (λ y z. k z .1) (λ z. k z .2))
-  lands (Onfree o t v) k c f = asked-lands o _ (λ s h e i. enlist-lands isWaiting o t (withMark t) v h i (λ y z. marked-word t y (k z .1)) (λ z. k z .2))
+  lands (Onfree o t v) k c f = asked-lands o _ (λ s h e i. enlist-lands isWaiting o t (withMark t) v h i (λ y z. mark-word t (valid-even (walk n m) t y) (k z .1)) (λ z. k z .2))
   lands (Withdraw o) k c f = asked-lands o _ (λ s h e i. withdraw-lands o h i)
   lands (Activate o) k c f = asked-lands o _ (λ s h e i. activate-lands o h i (λ z. f unmarked h s (entries-if (hasState RESERVED) (λ j. unmarked) _ h e z)))
   lands (Free o) k c f = asked-lands o _ (λ s h e i. free-lands s o h i (λ z. f (freed h) h s (entries-if isWaiting freed _ h e z)))

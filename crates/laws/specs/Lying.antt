@@ -3,6 +3,7 @@ use Prim.Native.Nat.{ℕ, _+_, _%_, _<_, _≤_}
 use mathlib.Core.Path.{_≡_, refl, ap}
 use mathlib.Core.Bool.{Bool, true, false, _||_}
 use mathlib.Core.Option.{some}
+use mathlib.Core.List.{List}
 use native.Mathlib.Omega.{arith}
 use lib.Dec.{leb}
 use borrow.Author.Tests.{eqb-true, leb-true}
@@ -16,13 +17,16 @@ use Rattle.laws.specs.Tilings.{tiles-le}
 use Rattle.laws.specs.Walking.{Placed, all-placed}
 use Rattle.laws.specs.Pools.{Sound, pool-length, pool-tiles}
 
--- a valid target lies in the image, at an offset divisible by 8
+-- a valid target is divisible by 8
+pub valid-even : (hs : List Head) (t : ℕ) → isValid hs t ≡ true → t % wordBytes ≡ 0
+unfolding isValid
+valid-even hs t e = eqb-true (t % wordBytes) 0 (and-both (isEven t) _ e .0)
+
+-- and lies in the image
 pub valid-in : (n : ℕ) (m : Mem) (t : ℕ) → Tiles clumpsAt (walk n m) n → isValid (walk n m) t ≡ true → (t % wordBytes ≡ 0) × (t + wordBytes ≤ n)
 unfolding isValid
 valid-in n m t tiles e =
-    let a = and-both (isEven t) _ e in
-    let l = tiles-le clumpsAt n (walk n m) tiles in
-    (eqb-true (t % wordBytes) 0 (a .0), go (lies staticAt staticEnd t) refl (a .1) l)
+    (valid-even (walk n m) t e, go (lies staticAt staticEnd t) refl (and-both (isEven t) _ e .1) (tiles-le clumpsAt n (walk n m) tiles))
   where
     go : (b : Bool) → lies staticAt staticEnd t ≡ b → (b || any (holdsWord t) (walk n m)) ≡ true → clumpsAt ≤ n → t + wordBytes ≤ n
     go true q f l = let c = leb-true (t + wordBytes) staticEnd (and-both (leb staticAt t) _ q .1) in omega arith

@@ -1,23 +1,24 @@
 -- Every request on a settled pool takes its course, whatever its numbers: a refusal stores nothing, and what each test leaves is what the
 -- laws of its stores want. By cases on the requests. Assumes nothing.
-use Prim.Native.Nat.{ℕ, _%_}
+use Prim.Native.Nat.{ℕ}
 use mathlib.Core.Path.{_≡_, refl, sym, subst}
 use mathlib.Core.Bool.{Bool, true, false, not}
 use mathlib.Core.Option.{Option, some, none}
 use mathlib.Core.List.{List, [], _∷_, _++_}
 use lib.Dec.{eqb, ltb}
-use borrow.Author.Tests.{leb-true, eqb-true, eqb-false, not-false}
+use borrow.Author.Tests.{leb-true, eqb-false, not-false}
 use Rattle.rules.specs.declared.Request.{Request}
 use Rattle.rules.specs.declared.Request.the-variants.{Create, Reserve, Onactive, Onfree, Withdraw, Activate, Free, Check, Recover}
 use Rattle.rules.specs.Lists.{seek, Each}
-use Rattle.rules.specs.Words.{Mem, wordBytes}
+use Rattle.rules.specs.Words.{Mem}
 use Rattle.rules.specs.Clumps.{Head, hasState, isFree, isWaiting, slots, used, unmarked, freed, targetOf, withMark, slotsBy, entriesBy, RESERVED, walk}
-use Rattle.rules.specs.Sound.{isEven, isValid, allValid, touching, unsettled}
+use Rattle.rules.specs.Sound.{isValid, allValid, touching, unsettled}
 use Rattle.rules.specs.Answers.{storesOf, sizeZero, wrongState, badTarget}
 use Rattle.rules.specs.Stores.{needOf, fits, reserveStores, activateStores, freeStores, recoverStores}
 use Rattle.rules.specs.Requests.{placed, reserve, finder, openSlot, listed, enlist, withdrawn, withdraw, activate, free, verdict}
 use Rattle.rules.specs.Traces.{isCreate, beforeTurn, isThrough}
 use Rattle.laws.specs.Searches.{differ, and-both, each-right, seek-split}
+use Rattle.laws.specs.Lying.{valid-even}
 use Rattle.laws.specs.Choices.{target-even, target-marked}
 use Rattle.laws.specs.Behind.{behind-test, behind-sound, behind-settled, behind-found}
 use Rattle.laws.specs.Pools.{Sound}
@@ -107,11 +108,6 @@ module _ (n : ℕ) (m : Mem) (s : Sound n m) (u : unsettled (walk n m) ≡ false
       behind-test (Course n m never) (none-made never) (not (allowed h)) wrongState _
       (λ z. listed-course h o t r v y a (openSlot m (slots (h .at))) refl)
 
-  -- a valid target is divisible by 8, so that it is the target of its word, with its mark and without
-  even : (t : ℕ) → isValid (walk n m) t ≡ true → t % wordBytes ≡ 0
-  unfolding isValid
-  even t e = eqb-true (t % wordBytes) 0 (and-both (isEven t) _ e .0)
-
   withdrawn-course : (o : ℕ) (h : Head) → Amid n m h → (us : List ℕ) → slotsBy used m (h .at) ≡ us → Course n m never (storesOf (withdrawn us o))
   withdrawn-course o h a [] e = none-made never
   withdrawn-course o h a (i ∷ us) e =
@@ -163,10 +159,10 @@ courses n m (Reserve size) s u c =
     (λ y z. behind-test (Course n m never) (course-none n m never s u) (eqb size 0) sizeZero _ (λ e. placed-course n m s u size (eqb-false size 0 e) (seek (fits (needOf size)) (walk n m)) refl))
 courses n m (Onactive o t v) s u c =
     behind-settled (Course n m never) (course-none n m never s u) n m _
-    (λ y z. behind-found (Course n m never) (course-none n m never s u) (finder (walk n m) o) _ (λ h e. enlist-course n m s u (hasState RESERVED) o t t v h (λ x. target-even t (even n m s u t x)) (amid n m _ h s u e)))
+    (λ y z. behind-found (Course n m never) (course-none n m never s u) (finder (walk n m) o) _ (λ h e. enlist-course n m s u (hasState RESERVED) o t t v h (λ x. target-even t (valid-even (walk n m) t x)) (amid n m _ h s u e)))
 courses n m (Onfree o t v) s u c =
     behind-settled (Course n m never) (course-none n m never s u) n m _
-    (λ y z. behind-found (Course n m never) (course-none n m never s u) (finder (walk n m) o) _ (λ h e. enlist-course n m s u isWaiting o t (withMark t) v h (λ x. target-marked t (even n m s u t x)) (amid n m _ h s u e)))
+    (λ y z. behind-found (Course n m never) (course-none n m never s u) (finder (walk n m) o) _ (λ h e. enlist-course n m s u isWaiting o t (withMark t) v h (λ x. target-marked t (valid-even (walk n m) t x)) (amid n m _ h s u e)))
 courses n m (Withdraw o) s u c =
     behind-settled (Course n m never) (course-none n m never s u) n m _
     (λ y z. behind-found (Course n m never) (course-none n m never s u) (finder (walk n m) o) _ (λ h e. withdraw-course n m s u o h (amid n m _ h s u e)))

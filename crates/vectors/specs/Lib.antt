@@ -1,9 +1,2 @@
--- What the program's parts say that they do: how a line is read, what its numbers ask, what a case leads to, the checksum, and the line
--- that is printed; and the laws of their loops.
-pub mod Sums
-pub mod Lines
+-- Where the bytes of a file of cases lead.
 pub mod Steps
-pub mod Cases
-pub mod Outcomes
-pub mod Filling
-pub mod Texts

@@ -1,36 +1,21 @@
 // Runs the library on the cases of the file that its first argument names, a case a line, and prints one line for each. A line that is no
 // case gets its number and `bad`. Takes any file, and assumes nothing of it. Where a read or a write fails, that is told in one line on
 // standard error, and the program ends: nothing more is read, run or printed. What stands in the file and what is printed is outside
-// every contract; what becomes of the bytes that were read is in the contracts of `take_all` and of the modules.
+// every contract; what becomes of the bytes that were read is in the contracts of `take_all` and of the crates `case`, `trial` and
+// `outcome`.
 ghost use mathlib.Core.Path.{_≡_};
 ghost use mathlib.Core.Bool.{true};
-ghost use Rattle.vectors.specs.Lines.{nextCase, place, lineNext, numbersNext, readOn};
-use crate::line::Line;
-use crate::line::Reading;
-use crate::run::Ran;
+ghost use Rattle.vectors.specs.Steps.{place, lineNext, numbersNext, readOn};
+use case::line::Line;
+use case::line::Reading;
 use libc::STDOUT_FILENO;
-
-mod case;
-mod line;
-mod reply;
-mod run;
-mod sum;
+use outcome::Ran;
 
 // Prints the line of a case. False where the write failed, which is told already.
 fn print(case: u64, ran: Ran) -> bool {
     let mut out = [0u8; 288];
-    let n = reply::line(&mut out, case, ran);
+    let n = outcome::line(&mut out, case, ran);
     streams::write_whole(STDOUT_FILENO, b"standard output", &out[..n])
-}
-
-// The number of the next case. No run comes to the last.
-fn next(case: u64) -> u64
-    ensures { λ r. ⌜ r ≡ nextCase case ⌝ }
-{
-    if case == 18446744073709551615 {
-        return case;
-    }
-    case + 1
 }
 
 // What bytes lead to: the line under way, and whether every line before it could be printed. Where one could not, the program ends.
@@ -44,15 +29,15 @@ fn take(l: Line, b: u8, numbers: &mut [u64; 256]) -> Taken
     ensures { λ r. ⌜ (r .line ≡ lineNext l b) × (now (numbers .exit) ≡ numbersNext l b (now (numbers .entry))) ⌝ }
 {
     if b == b'\n' {
-        let whole = line::put(l, numbers);
-        let ok = print(l.case, run::run(whole, numbers));
+        let whole = case::line::put(l, numbers);
+        let ok = print(l.case, trial::run(whole, numbers));
         return Taken {
-            line: Line::new(next(l.case)),
+            line: Line::new(case::line::next(l.case)),
             ok,
         };
     }
     Taken {
-        line: line::take(l, b, numbers),
+        line: case::line::take(l, b, numbers),
         ok: true,
     }
 }

@@ -2,7 +2,7 @@
 use mathlib.Core.Path.{ap, _∙_}
 use borrow.Author.Needs.{needs}
 use borrow.Author.Tests.{eq-eqb, ne-eqb}
-use Rattle.vectors.specs.Lines.{started}
+use Rattle.case.specs.Lines.{started}
 use Rattle.vectors.proofs.take.Statement.{statement}
 use Rattle.vectors.proofs.take.Tie as tie
 

@@ -5,8 +5,7 @@ use mathlib.Core.Bool.{true≢false}
 use lib.ListN.{length}
 use borrow.Author.Needs.{needs}
 use borrow.Author.Tests.{not-true}
-use Rattle.vectors.specs.Lines.{place}
-use Rattle.vectors.specs.Steps.{Reading-on, reading-start, reading-next, reading-end}
+use Rattle.vectors.specs.Steps.{place, Reading-on, reading-start, reading-next, reading-end}
 use Rattle.vectors.proofs.take_all.Statement.{statement}
 use Rattle.vectors.proofs.take_all.Tie as tie
 

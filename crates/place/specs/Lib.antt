@@ -1,2 +1,2 @@
--- What the contracts of `place` cite beside the rules, and the laws of create and reserve.
+-- What the contracts of `place` cite beside the rules, and the laws of reserve.
 pub mod Places

@@ -1,42 +1,23 @@
--- Create's list in two parts, what reserve asks of the clump that was found, and a law for each way out of the two. Assumes nothing.
-use Prim.Native.Nat.{ℕ, _+_, _-_, _/_, _%_, _<_, _≤_}
-use mathlib.Core.Path.{_≡_, sym, _∙_}
-use mathlib.Core.Bool.{Bool, true, false, not}
+-- What reserve asks of the clump that was found, and a law for each way out of it. Assumes nothing.
+use Prim.Native.Nat.{ℕ, _+_, _-_, _%_, _<_, _≤_}
+use mathlib.Core.Path.{_≡_}
 use mathlib.Core.Option.{some, none}
-use mathlib.Core.List.{List, [], _∷_, _++_, append-assoc}
+use mathlib.Core.List.{List, [], _∷_, _++_}
 use native.Mathlib.Omega.{arith}
-use lib.ListN.{length}
-use borrow.Author.Tests.{eq-eqb, ne-eqb, le-leb, lt-leb, leb-true, not-true, not-false}
+use borrow.Author.Tests.{eq-eqb, ne-eqb, le-leb, lt-leb, leb-true}
 use Rattle.rules.specs.declared.Answer.{Answer}
-use Rattle.rules.specs.declared.Request.the-variants.{Create}
 use Rattle.rules.specs.Lists.{seek}
-use Rattle.rules.specs.Words.{Image, Mem, Store, mem, store, zeros, wordBytes, wordValues}
-use Rattle.rules.specs.Pages.{pageBytes, staticAt, headerAt, signatureLow, signatureHigh, signatureHighAt, totalAt, paddingAt, paddingWords, clumpsAt, unit, rightLength}
+use Rattle.rules.specs.Words.{Image, Mem, mem, store, wordValues}
+use Rattle.rules.specs.Pages.{clumpsAt, unit}
 use Rattle.rules.specs.Clumps.{Head, head, isFree, headerBytes, slots, stateAt, FREE, RESERVED, Tiles, walk, offsetOf}
-use Rattle.rules.specs.Answers.{granted, refuse, notPool, sizeZero, noRoom}
-use Rattle.rules.specs.Stores.{createStores, needOf, fits, emptying, leastRest, reserveStores}
-use Rattle.rules.specs.Requests.{Does, reserve, verdict}
+use Rattle.rules.specs.Answers.{granted, refuse, sizeZero, noRoom}
+use Rattle.rules.specs.Stores.{needOf, fits, emptying, leastRest, reserveStores}
+use Rattle.rules.specs.Requests.{reserve}
 use Rattle.laws.specs.Searches.{and-both, seek-split}
-use Rattle.laws.specs.Pools.{answerIs}
 use Rattle.walk.specs.Scans.{offset-some, offset-inside}
-use Rattle.steps.specs.Acts.{Acts, acts-refused, acts-does, acts-ran}
+use Rattle.steps.specs.Acts.{Acts, acts-ran}
 use Rattle.word.specs.declared.Power.{Power}
-use Rattle.word.specs.Runs.{full, Ran, told, ran-then, ran-as}
-
--- create's list, below the padding and from it on
-abbrev pub pageStores : ℕ → List Store
-pageStores n =
-    store headerAt 0
-    ∷ (zeros staticAt (pageBytes / wordBytes) ++ (store signatureHighAt signatureHigh ∷ store totalAt n ∷ []))
-
-abbrev pub clumpStores : ℕ → List Store
-clumpStores n =
-    zeros paddingAt paddingWords
-    ++ (store clumpsAt (n - clumpsAt) ∷ (zeros (clumpsAt + wordBytes) (headerBytes / wordBytes - 1) ++ (store headerAt signatureLow ∷ [])))
-
-pub create-parts : (n : ℕ) → createStores n ≡ pageStores n ++ clumpStores n
-unfolding createStores
-create-parts n = rw append-assoc
+use Rattle.word.specs.Runs.{full, Ran, told}
 
 -- the clump at h is large enough
 pub record Fit (n : ℕ) (m : Mem) (need h : ℕ) : Type 0 where
@@ -103,22 +84,3 @@ module _ (img : Image) (h size fuse n k : ℕ) (p : Power) (fresh : p ≡ full f
       → Acts img (granted (h + headerBytes) (reserveStores (needOf size) (head (mem img) h))) fuse x r
   whole-acts l s e =
       rw (stores-whole (needOf size) (head (mem img) h) (rw (← size-is, ← need-eq) l)) (acts-ran fuse (h + headerBytes) (rw fresh at s) e)
-
--- create, a law for each way out
-pub create-refused : (img : Image) (b : Bool) (fuse : ℕ) → b ≡ rightLength (length img) → not b ≡ true → Does img Create fuse img (answerIs 1 0 0)
-unfolding verdict
-create-refused img b fuse e t = acts-does (refuse notPool) (rw (sym e ∙ not-true b t)) (acts-refused img 1 0 0 fuse)
-
-pub create-done :
-    {img x y : Image} {p q s : Power} {r : Answer} (b : Bool) (fuse : ℕ)
-    → b ≡ rightLength (length img)
-    → not b ≡ false
-    → p ≡ full fuse
-    → Ran img p (pageStores (length img)) x q
-    → Ran x q (clumpStores (length x)) y s
-    → r ≡ told s 0
-    → Does img Create fuse y r
-unfolding verdict
-create-done {img} {s = s} b fuse e t f u v a =
-    acts-does (granted 0 (createStores (length img))) (rw (sym e ∙ not-false b t))
-    (acts-ran {q = s} fuse 0 (ran-as _ _ (create-parts (length img)) (ran-then (rw f at u) (rw (u .long) at v))) a)

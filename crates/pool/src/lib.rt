@@ -11,7 +11,7 @@ use survey::Checked;
 pub fn create(img: &mut [u8], fuse: u64) -> Answer
     ensures { λ r. ⌜ Does (now (img .entry)) Create fuse (now (img .exit)) r ⌝ }
 {
-    place::create(img, fuse)
+    create::create(img, fuse)
 }
 
 // A body of at least that size, RESERVED. The place is the body's offset.

@@ -3,10 +3,10 @@ use native.Mathlib.Omega.{arith}
 use mathlib.Core.Path.{sym, _∙_}
 use borrow.Author.Tests.{not-false}
 use Rattle.laws.specs.Pools.{right-length}
-use Rattle.place.specs.Places.{create-refused, create-done}
+use Rattle.create.specs.Creating.{create-refused, create-done}
 use borrow.Author.Needs.{needs}
-use Rattle.place.proofs.create.Statement.{statement}
-use Rattle.place.proofs.create.Tie as tie
+use Rattle.create.proofs.create.Statement.{statement}
+use Rattle.create.proofs.create.Tie as tie
 
 right-length-requires : tie.Need-right-length-requires
 right-length-requires c κs = search needs

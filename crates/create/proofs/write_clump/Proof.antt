@@ -2,8 +2,8 @@
 use Rattle.word.specs.Runs.{ran-then}
 use Rattle.page.specs.Pool.{low-is}
 use borrow.Author.Needs.{needs}
-use Rattle.place.proofs.write_clump.Statement.{statement}
-use Rattle.place.proofs.write_clump.Tie as tie
+use Rattle.create.proofs.write_clump.Statement.{statement}
+use Rattle.create.proofs.write_clump.Tie as tie
 
 zero-words-requires : tie.Need-zero-words-requires
 zero-words-requires c κs = search needs

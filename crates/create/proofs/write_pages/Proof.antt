@@ -2,8 +2,8 @@
 use Rattle.word.specs.Runs.{ran-then}
 use Rattle.page.specs.Pool.{high-is}
 use borrow.Author.Needs.{needs}
-use Rattle.place.proofs.write_pages.Statement.{statement}
-use Rattle.place.proofs.write_pages.Tie as tie
+use Rattle.create.proofs.write_pages.Statement.{statement}
+use Rattle.create.proofs.write_pages.Tie as tie
 
 store-requires : tie.Need-store-requires
 store-requires c κs = search needs

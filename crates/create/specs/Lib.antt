@@ -1,0 +1,2 @@
+-- What the contracts of `create` cite beside the rules, and its laws.
+pub mod Creating

@@ -13,8 +13,9 @@ use Rattle.rules.specs.Words.{Image}
 use Rattle.line.specs.Lines.{lineOf, fuseAfter}
 use Rattle.text.specs.Texts.{newline}
 use Rattle.line.specs.Gathering.{kept, Gathered, Holds, holds-start, holds-next, holds-line}
+use Rattle.obey.specs.Obeying.{imageAfter}
 use Rattle.bench.specs.declared.feed.Held.{Held}
-use Rattle.bench.specs.Steps.{Dialogue, imageAfter, lineEnded, byteAfter, bytesAfter}
+use Rattle.bench.specs.Steps.{Dialogue, lineEnded, byteAfter, bytesAfter}
 
 -- image, buffer and what is held stand for a dialogue: of its text the buffer has as many bytes as tell what it means
 pub record Stands (img : Image) (buf : List ℕ) (h : Held) (s : Dialogue) : Type 0 where

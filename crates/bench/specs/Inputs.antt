@@ -11,8 +11,9 @@ use Rattle.text.specs.Texts.{newline}
 use Rattle.line.specs.declared.Line.the-variants.{Bad}
 use Rattle.line.specs.Lines.{fields, numbers, same, named, commands, command, meaning, lineOf}
 use Rattle.line.specs.Gathering.{kept, holds-start}
+use Rattle.obey.specs.Obeying.{imageAfter}
 use Rattle.bench.specs.declared.feed.Held.{Held}
-use Rattle.bench.specs.Steps.{Dialogue, imageAfter, started, lineEnded, byteAfter, bytesAfter}
+use Rattle.bench.specs.Steps.{Dialogue, started, lineEnded, byteAfter, bytesAfter}
 use Rattle.bench.specs.Feeding.{Stands, Follows, line-held, bytes-append}
 
 -- the dialogue after some input

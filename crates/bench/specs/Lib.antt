@@ -1,4 +1,4 @@
--- What the program makes of a line, a byte and its whole input, in document 01's words ("The program"), and the laws of the code.
+-- What the program makes of a byte and of its whole input, in document 01's words ("The program"), and the laws of the code.
 pub mod Steps
 pub mod Feeding
 pub mod Inputs

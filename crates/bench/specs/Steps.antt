@@ -1,22 +1,14 @@
--- What a line and a byte of the input make of the image and of the fuse (01, "The program"). Assumes nothing.
+-- What a byte of the input makes of the image and of the fuse (01, "The program"); what a line makes of the image is `imageAfter`, of the
+-- crate `obey`. Assumes nothing.
 use Prim.Native.Nat.{ℕ}
 use mathlib.Core.Bool.{cond}
 use mathlib.Core.List.{List, [], _∷_, _++_}
 use lib.Dec.{eqb}
 use Rattle.rules.specs.Words.{Image}
 use Rattle.rules.specs.Cases.{longest}
-use Rattle.rules.specs.Requests.{cut}
-use Rattle.line.specs.declared.Line.{Line}
-use Rattle.line.specs.declared.Line.the-variants.{Ask, Fuse, Walk, Bad}
 use Rattle.line.specs.Lines.{lineOf, fuseAfter}
 use Rattle.text.specs.Texts.{newline}
-
--- the image after a line: a request stores as far as its fuse lasts, and no other line stores
-unfoldable pub imageAfter : Image → Line → ℕ → Image
-imageAfter img (Ask q) fuse = cut img q fuse
-imageAfter img (Fuse k) fuse = img
-imageAfter img Walk fuse = img
-imageAfter img Bad fuse = img
+use Rattle.obey.specs.Obeying.{imageAfter}
 
 -- where the program stands in its input: the image, the bytes since the last newline, the fuse of the next request
 pub record Dialogue : Type 0 where

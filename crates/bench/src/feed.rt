@@ -7,10 +7,10 @@ ghost use Prim.Native.Nat.{_≤_};
 ghost use lib.ListN.{length, take};
 ghost use Rattle.line.specs.Lines.{lineOf, fuseAfter};
 ghost use Rattle.line.specs.Gathering.{kept};
-ghost use Rattle.bench.specs.Steps.{Dialogue, imageAfter, lineEnded};
+ghost use Rattle.obey.specs.Obeying.{imageAfter};
+ghost use Rattle.bench.specs.Steps.{Dialogue, lineEnded};
 ghost use Rattle.bench.specs.Feeding.{Stands, Follows, Fed};
-use crate::obey;
-use crate::obey::Obeyed;
+use obey::Obeyed;
 use text::NEWLINE;
 
 // What is held from byte to byte: how many bytes of the line are in the buffer, the fuse of the next request, and whether all that was

@@ -1,5 +1,5 @@
 // The program of document 01: a pool of 32,768 bytes, requests from standard input, answers on standard output.
-// This file reads; `feed` gathers the bytes into lines, `obey` does what a line says, and `say` writes what the crate `show` puts together.
+// This file reads; `feed` gathers the bytes into lines, and the crate `obey` does what a line says and writes what is printed for it.
 // Which bytes are read and written no contract can say: that is seen in the code and in the file `stdout`. Where a read or a write
 // fails the program ends, and `streams` tells why in one line on standard error; a read that fails is not the end of the input.
 ghost use Rattle.io.specs.Counts.{Counts};
@@ -9,8 +9,6 @@ use libc::STDIN_FILENO;
 use streams::Got;
 
 mod feed;
-mod obey;
-mod say;
 
 // Reads once.
 fn read_some(chunk: &mut [u8]) -> Got

@@ -2,9 +2,10 @@
 // The contracts say what becomes of the image and of the fuse. What is printed is in those of `show`.
 ghost use mathlib.Core.Path.{_≡_};
 ghost use Rattle.line.specs.Lines.{lineOf, fuseAfter};
-ghost use Rattle.bench.specs.Steps.{imageAfter};
-use crate::say;
+ghost use Rattle.obey.specs.Obeying.{imageAfter};
 use line::Line;
+
+mod say;
 
 // What a line leaves: the fuse that the next request has, and whether what the line prints was written.
 pub struct Obeyed {

@@ -1,8 +1,8 @@
 -- `obey`: a request does what `pool::ask` says, and any other line leaves the image. Assumes nothing.
 use borrow.Author.Needs.{needs}
-use Rattle.bench.specs.Steps.{imageAfter}
-use Rattle.bench.proofs.obey.obey.Statement.{statement}
-use Rattle.bench.proofs.obey.obey.Tie as tie
+use Rattle.obey.specs.Obeying.{imageAfter}
+use Rattle.obey.proofs.obey.Statement.{statement}
+use Rattle.obey.proofs.obey.Tie as tie
 
 enum-known-l : tie.Need-enum-known-l
 enum-known-l c = search needs

@@ -7,8 +7,8 @@ use borrow.Author.Tests.{leb-true}
 use Rattle.rules.specs.Words.{wordBytes}
 use Rattle.rules.specs.Clumps.{headerBytes}
 use Rattle.show.specs.Parts.{shows-leads, shows-further}
-use Rattle.bench.proofs.say.clumps.Statement.{statement}
-use Rattle.bench.proofs.say.clumps.Tie as tie
+use Rattle.obey.proofs.say.clumps.Statement.{statement}
+use Rattle.obey.proofs.say.clumps.Tie as tie
 
 abbrev Inv-loop : tie.InvT-loop
 Inv-loop img out₀ at₀ out at = at < length img → at % wordBytes ≡ 0

@@ -1,7 +1,7 @@
 -- `line_end`: the line obeyed is the one that was read. Assumes nothing.
 use borrow.Author.Needs.{needs}
-use Rattle.bench.proofs.obey.line_end.Statement.{statement}
-use Rattle.bench.proofs.obey.line_end.Tie as tie
+use Rattle.obey.proofs.line_end.Statement.{statement}
+use Rattle.obey.proofs.line_end.Tie as tie
 
 read-requires : tie.Need-read-requires
 read-requires c κs = search needs

@@ -106,10 +106,17 @@ struct syrinthoa_checked {
 struct syrinthoa_answer syrinthoa_create(uint8_t *image, size_t length, uint64_t fuse);
 
 /* Takes a body of `size` bytes or more from the first FREE clump with room. It is RESERVED: the caller's to fill, and gone after a power
- * loss unless it is activated first. It is not cleared.
+ * loss unless it is activated first. Every byte of it is 0, also those beyond `size`; and no power loss leaves it RESERVED before they are.
  * Answers DONE, with the body's offset as place; NOT_A_POOL, NOT_SOUND, UNSETTLED, SIZE_ZERO, NO_ROOM; CUT.
- * After a power loss and recovery the pool reads as if it had not been asked. */
+ * After a power loss and recovery the pool reads as if it had not been asked; bytes of what is FREE may be 0 then that were not. */
 struct syrinthoa_answer syrinthoa_reserve(uint8_t *image, size_t length, uint64_t size, uint64_t fuse);
+
+/* The same, but the body is not cleared: its bytes are what they were, perhaps those of a record that was freed. It stores 4 or 7 words,
+ * where syrinthoa_reserve stores one more for every 8 bytes of the body. For a caller that writes every byte of the body before anything
+ * reads it. The body may be larger than `size`: up to the next multiple of 64, and by 64 bytes more where that rest was too small to be
+ * parted. A caller that writes `size` bytes alone leaves old ones behind them, and must ask syrinthoa_reserve.
+ * Answers, and reads after a power loss and recovery, as syrinthoa_reserve. */
+struct syrinthoa_answer syrinthoa_reserve_uncleared(uint8_t *image, size_t length, uint64_t size, uint64_t fuse);
 
 /* Lists an assignment: when the RESERVED clump is activated, the word at `target` becomes `value`. A clump lists three assignments at most,
  * those of syrinthoa_onfree among them. A new one goes behind the last: what was carried out leaves a gap that is not filled again.

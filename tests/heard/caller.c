@@ -34,8 +34,9 @@ extern answer lasting_withdraw(uint8_t *, size_t, uint64_t);
 extern answer lasting_activate(uint8_t *, size_t, uint64_t);
 extern answer lasting_free(uint8_t *, size_t, uint64_t);
 extern answer lasting_recover(uint8_t *, size_t);
+extern answer lasting_reserve_uncleared(uint8_t *, size_t, uint64_t);
 
-enum { CREATE, RESERVE, ONACTIVE, ONFREE, WITHDRAW, ACTIVATE, FREE, CHECK, RECOVER };
+enum { CREATE, RESERVE, ONACTIVE, ONFREE, WITHDRAW, ACTIVATE, FREE, CHECK, RECOVER, RESERVE_UNCLEARED };
 
 struct asked {
     uint64_t request, a, b, c, fuse;
@@ -55,6 +56,7 @@ static answer with_fuse(uint8_t *image, size_t length, struct asked q) {
     case WITHDRAW: return syrinthoa_withdraw(image, length, q.a, q.fuse);
     case ACTIVATE: return syrinthoa_activate(image, length, q.a, q.fuse);
     case FREE: return syrinthoa_free(image, length, q.a, q.fuse);
+    case RESERVE_UNCLEARED: return syrinthoa_reserve_uncleared(image, length, q.a, q.fuse);
     default: return syrinthoa_recover(image, length, q.fuse);
     }
 }
@@ -68,6 +70,7 @@ static answer lasting(uint8_t *image, size_t length, struct asked q) {
     case WITHDRAW: return lasting_withdraw(image, length, q.a);
     case ACTIVATE: return lasting_activate(image, length, q.a);
     case FREE: return lasting_free(image, length, q.a);
+    case RESERVE_UNCLEARED: return lasting_reserve_uncleared(image, length, q.a);
     default: return lasting_recover(image, length);
     }
 }

@@ -20,6 +20,7 @@ from pathlib import Path
 sys.path.insert(0, str(Path(__file__).resolve().parents[1] / "model"))
 
 import pool
+from build import telling_fuses
 from cases import REQUEST_NAMES, all_cases
 from generate import case_line
 from pool import LARGEST
@@ -41,14 +42,14 @@ Heard = namedtuple("Heard", "stores whole")
 # ---------------------------------------------------------------------------
 
 # The vectors' cases, each as it stands; then every list that they have, cut after
-# each number of its stores, not cut, and with one store to spare.  (Create has
-# its cuts among the cases.)
+# each number of its stores (of many zeros after those that tell), not cut, and with
+# one store to spare.  (Create has its cuts among the cases.)
 def with_every_cut(cases):
     yield from cases
     for one in uncut(cases):
         stores = asked(one).answer.stores
         if one.name != "create" and stores:
-            for fuse in range(stores + 2):
+            for fuse in (*telling_fuses(one.image, one.name, one.numbers), stores + 1):
                 yield one._replace(fuse=fuse)
 
 
@@ -216,11 +217,11 @@ def how(report, where):
 
 
 def print_report(report):
-    print("%-14s %-9s %8s %8s %8s %8s  %s" % (
+    print("%-14s %-17s %8s %8s %8s %8s  %s" % (
         "build", "request", *KINDS, "stores", "calls heard"))
     for where in report.places():
         counts = [report.calls[where, kind] for kind in KINDS]
-        print("%-14s %-9s %8d %8d %8d %8d  %s" % (
+        print("%-14s %-17s %8d %8d %8d %8d  %s" % (
             *where, *counts, report.stores[where], how(report, where)))
     for (where, found), example in report.examples.items():
         print_example(where, found, *example)

@@ -106,12 +106,14 @@ class TestCalls(unittest.TestCase):
     @classmethod
     def setUpClass(cls):
         cls.calls = hearing.all_calls()
+        cls.answers = [asked(call.case).answer for call in cls.calls]
 
     # "every request, granted and refused": in both builds, and with no image at all.
     def test_what_is_called(self):
         self.assertGreaterEqual(len(self.calls), 5000)
         self.assertEqual(len(set(self.calls)), len(self.calls))
-        answers = {(call.build, call.case.name, asked(call.case).answer.answer) for call in self.calls}
+        answers = {(call.build, call.case.name, given.answer)
+                   for call, given in zip(self.calls, self.answers)}
         for build in (0, 1):
             for name in pool_requests(build):
                 self.assertIn((build, name, 0), answers)
@@ -122,7 +124,8 @@ class TestCalls(unittest.TestCase):
                          {(0, name) for name in pool_requests(1)})
 
     # "every cut": each list is called with every fuse up to one that has a store to
-    # spare; create's, which is the same for every image, over one of them.
+    # spare; create's, which is the same for every image, over one of them.  Of a reserve
+    # that clears many words, every fuse but those within its zeros.
     def test_every_cut(self):
         fuses = {}
         for build, one in self.calls:
@@ -133,9 +136,28 @@ class TestCalls(unittest.TestCase):
             stores = asked(one).answer.stores
             if stores:
                 found[one.name, called.issuperset(range(stores + 2))] += 1
+            if stores and one.name == "reserve":
+                self.assertLessEqual(fuses_of_reserve(stores), called)
         for name in pool_requests(1):
             self.assertGreater(found[name, True], 0)
-            self.assertTrue(name == "create" or found[name, False] == 0)
+            self.assertTrue(name in ("create", "reserve") or found[name, False] == 0)
+        self.assertGreater(found["reserve", False], 0)
+
+    # The hearing takes its time for each store.
+    def test_how_much_is_called(self):
+        self.assertLessEqual(len(self.calls), 30000)
+        self.assertLessEqual(sum(given.stores for given in self.answers), 1300000)
+
+
+# The fuses that a reserve of so many stores is called with at the least: 7 or 4 of them
+# are no zeros, and a body has eight words or more.  Every fuse up to the second zero, the
+# middle, and every fuse from the last zero but one on; all, if the zeros are 16 or fewer.
+def fuses_of_reserve(stores):
+    others = stores % 8
+    zeros = stores - others
+    if zeros <= 16:
+        return set(range(stores + 2))
+    return {*range(others + 2), others - 1 + zeros // 2, *range(stores - 3, stores + 2)}
 
 
 def pool_requests(build):

@@ -121,6 +121,55 @@ def stores_of(image, name, numbers):
     return pool.ask(bytearray(image), name, numbers).stores
 
 
+# Reserve's two forms (W5 of document 02): the first clears the body, the second
+# keeps the old rule.
+FORMS = ("reserve", "reserve_uncleared")
+
+
+def zeros_of(image, name, numbers):
+    """How many of a request's stores clear the body: reserve's, just before its last."""
+    if name != "reserve":
+        return 0
+    return stores_of(image, "reserve", numbers) - stores_of(image, "reserve_uncleared", numbers)
+
+
+# So many zeros are cut one by one.
+FEW_ZEROS = 16
+
+
+# The fuses that a list is cut with: each from 0 to the list's length.  Of more zeros
+# than a few, cuts before the first two and behind them, in the middle, and before the
+# last two and behind them: each of the others would leave one more word cleared.
+def telling_fuses(image, name, numbers):
+    length = stores_of(image, name, numbers)
+    zeros = zeros_of(image, name, numbers)
+    if zeros <= FEW_ZEROS:
+        return list(range(length + 1))
+    first, last = length - 1 - zeros, length - 1
+    return [*range(first + 3), first + zeros // 2, *range(last - 2, length + 1)]
+
+
+# What a FREE body may have kept: words that every byte is set of, and an old command's
+# record, in each 64 bytes (next, previous, acknowledgement, serial, valve, position,
+# and the two spare words).  No word of it is 0, so that each zero changes its word.
+OLD_RECORD = (16832, 17088, 4242, 4241, 3, 77, 2**63, 255)
+OLD_BYTES = (LARGEST,) * 8
+
+
+def with_old_body(image, offset, nbytes, old):
+    """A copy with old words, eight in turn, in so many bytes from the offset on."""
+    return with_words(image, {offset + 8 * at: old[at % 8] for at in range(nbytes // 8)})
+
+
+# A FREE clump with old words in its list and its body, at 16512 (body 16576) between
+# two ACTIVE ones, whose nearest words are old ones too.
+def dirty_pool(nbytes, old):
+    image = pool_of(clump(128, ACTIVE), clump(nbytes, FREE, (1, 2), (3, 4), (5, 6)),
+                    clump(128, ACTIVE))
+    image = with_old_body(image, 16576, nbytes - 64, old)
+    return with_words(image, {16504: 91, 16512 + nbytes + 64: 92})
+
+
 def flip_bit(image, offset, bit):
     changed = bytearray(image)
     changed[offset] ^= 1 << bit
@@ -164,7 +213,7 @@ MIXED_REQUESTS = (
     ("reserve", (100,)), ("onactive", (MIXED_BARE_RESERVED, 4096, 1)),
     ("onfree", (MIXED_ACTIVE, 4096, 1)), ("withdraw", (MIXED_RESERVED,)),
     ("activate", (MIXED_RESERVED,)), ("free", (MIXED_ACTIVE,)),
-    ("check", ()), ("recover", ()))
+    ("check", ()), ("recover", ()), ("reserve_uncleared", (100,)))
 
 
 # A pool with one clump in the given state, FREE on both sides of it.

@@ -7,11 +7,11 @@ tries.  A case that an earlier family has given already is left out.
 import pool
 from pool import FREE, RESERVED, ACTIVATING, ACTIVE, FREEING, LARGEST
 from build import (
-    Dice, EDGE_NUMBERS, EMPTY, MARKED, MIXED, MIXED_ACTIVE, MIXED_BARE_ACTIVE,
+    Dice, EDGE_NUMBERS, EMPTY, FORMS, MARKED, MIXED, MIXED_ACTIVE, MIXED_BARE_ACTIVE,
     MIXED_BARE_RESERVED, MIXED_FREE, MIXED_REQUESTS, MIXED_RESERVED, MIXTURES,
-    UNMARKED, after, case, clump, dusty, entry, filled, flip_bit, fresh,
-    mixed_entries, mixture_pool, pool_header, pool_of, stores_of, unfinished,
-    with_words)
+    OLD_BYTES, OLD_RECORD, UNMARKED, after, case, clump, dirty_pool, dusty, entry,
+    filled, flip_bit, fresh, mixed_entries, mixture_pool, pool_header, pool_of,
+    stores_of, telling_fuses, unfinished, with_old_body, with_words, zeros_of)
 
 # ---------------------------------------------------------------------------
 # Not a pool
@@ -282,7 +282,9 @@ REFUSABLE = (
     ("onactive", (1, 4096, 1)), ("onactive", (16448, 1, 1)),
     ("onfree", (16448, 4096, 1)), ("onfree", (2, 1, 1)), ("withdraw", (3,)),
     ("withdraw", (16448,)), ("activate", (0,)), ("activate", (16448,)),
-    ("free", (LARGEST,)), ("free", (16448,)), ("check", ()), ("recover", ()))
+    ("free", (LARGEST,)), ("free", (16448,)), ("check", ()), ("recover", ()),
+    ("reserve_uncleared", (0,)), ("reserve_uncleared", (LARGEST,)),
+    ("reserve_uncleared", (1,)))
 
 
 # Answer 3 by each of its reasons and before each later answer; check and
@@ -305,12 +307,13 @@ def settled_after_all():
                     clump(128, ACTIVE), clump(128, FREE))
     for name, numbers in (("check", ()), ("recover", ()), ("reserve", (64,)),
                           ("withdraw", (16576,)), ("activate", (16576,)),
-                          ("free", (16576,)), ("free", (16832,))):
+                          ("free", (16576,)), ("free", (16832,)),
+                          ("reserve_uncleared", (64,))):
         yield case(image, name, *numbers)
 
 
 # ---------------------------------------------------------------------------
-# Reserve
+# Reserve, in both forms (W5 of document 02): equal answers and places
 # ---------------------------------------------------------------------------
 
 # Sizes round each multiple of 64 until the clump is too small, and round some
@@ -320,11 +323,16 @@ def sizes_round_64():
     for multiple in range(0, 1152, 64):
         for size in (multiple - 1, multiple, multiple + 1):
             if size >= 0:
-                yield case(small, "reserve", size)
+                yield from both_forms(small, size)
     usual = fresh(32768)
     for count in (1, 2, 3, 16, 32, 63, 64, 127, 128, 252, 253, 254, 255, 256):
         for size in (64 * count - 1, 64 * count, 64 * count + 1):
-            yield case(usual, "reserve", size)
+            yield from both_forms(usual, size)
+
+
+def both_forms(image, size):
+    for name in FORMS:
+        yield case(image, name, size)
 
 
 # One FREE clump from too small to a rest of more than 128, for a few sizes.
@@ -337,9 +345,9 @@ def rests():
             if nbytes >= need + 64:
                 image = with_words(image, {16384 + need + at: 900 + at
                                            for at in range(0, 64, 8)})
-            yield case(image, "reserve", size)
+            yield from both_forms(image, size)
             between = pool_of(clump(128, ACTIVE), clump(nbytes, FREE), clump(128, RESERVED))
-            yield case(between, "reserve", size)
+            yield from both_forms(between, size)
 
 
 # First fit: FREE clumps of several sizes between live ones; the first that is
@@ -350,7 +358,7 @@ def first_fits():
                     clump(128, RESERVED), clump(1088, FREE), live, clump(704, FREE))
     for size in (1, 63, 64, 65, 127, 128, 129, 192, 193, 255, 256, 257, 320, 639, 640,
                  641, 896, 897, 960, 961, 1023, 1024, 1025):
-        yield case(image, "reserve", size)
+        yield from both_forms(image, size)
 
 
 # Sizes whose rounding or header would wrap, where there is room and where there
@@ -361,8 +369,8 @@ def huge_sizes():
     sizes = EDGE_NUMBERS + (2**64 - 127, 2**64 - 129, 2**64 - 16448, 2**63 - 64,
                             2**32 - 64, 2**32 + 1, 2**16)
     for size in sizes:
-        yield case(roomy, "reserve", size)
-        yield case(full, "reserve", size)
+        yield from both_forms(roomy, size)
+        yield from both_forms(full, size)
 
 
 # ---------------------------------------------------------------------------
@@ -484,6 +492,12 @@ def reserve_choices():
         "reserve", (65,)
 
 
+# The same in the form that doesn't clear the body.
+def reserve_uncleared_choices():
+    for image, _, numbers in reserve_choices():
+        yield image, "reserve_uncleared", numbers
+
+
 # Onactive and onfree into the first, second and third entry, each over the value
 # that the empty entry has kept.
 def list_choices():
@@ -575,18 +589,20 @@ def recover_other_choices():
 
 
 CHOICES = (reserve_choices, list_choices, withdraw_choices, activate_choices,
-           free_choices, recover_unfinished_choices, recover_other_choices)
+           free_choices, recover_unfinished_choices, recover_other_choices,
+           reserve_uncleared_choices)
 
 
 def all_choices():
     return [choice for family in CHOICES for choice in family()]
 
 
-# Each fuse from 0 to the list's length, one more, and the largest.
+# Each fuse from 0 to the list's length (of many zeros those that tell), one more, and
+# the largest.
 def every_cut():
     for image, name, numbers in all_choices():
         length = stores_of(image, name, numbers)
-        for fuse in list(range(length + 2)) + [LARGEST]:
+        for fuse in (*telling_fuses(image, name, numbers), length + 1, LARGEST):
             yield case(image, name, *numbers, fuse=fuse)
 
 
@@ -607,6 +623,8 @@ def fuses_of_refusals():
         yield case(FAULTY[0], "recover", fuse=fuse)
         yield case(MIXED, "reserve", 0, fuse=fuse)
         yield case(MIXED, "reserve", 10000, fuse=fuse)
+        yield case(MIXED, "reserve_uncleared", 0, fuse=fuse)
+        yield case(MIXED, "reserve_uncleared", 10000, fuse=fuse)
         yield case(MIXED, "onactive", 5, 4096, 1, fuse=fuse)
         yield case(MIXED, "onfree", MIXED_FREE, 4096, 1, fuse=fuse)
         yield case(MIXED, "onactive", MIXED_RESERVED, 4096, 1, fuse=fuse)
@@ -656,7 +674,7 @@ def after_create_cuts():
 # What each cut of each choice leaves, once a store was made.
 def cut_images():
     for image, name, numbers in all_choices():
-        for fuse in range(1, stores_of(image, name, numbers)):
+        for fuse in telling_fuses(image, name, numbers)[1:-1]:
             yield after(image, name, *numbers, fuse=fuse)
 
 
@@ -717,7 +735,7 @@ def dust():
     for words in ((LARGEST, 0, 0), (0, 0, 4096), (1, 0, LARGEST), (16384, 8, 3)):
         image = pool_of(clump(128, ACTIVE), clump(256, FREE, *((word, word) for word in words)))
         for name, numbers in (("check", ()), ("reserve", (1,)), ("free", (16448,)),
-                              ("recover", ())):
+                              ("recover", ()), ("reserve_uncleared", (1,))):
             yield case(image, name, *numbers)
 
 
@@ -725,8 +743,11 @@ def dust():
 # Chance
 # ---------------------------------------------------------------------------
 
-REQUEST_NAMES = ("create", "reserve", "onactive", "onfree", "withdraw", "activate",
-                 "free", "check", "recover")
+# Document 01's requests in its order, then what document 02 adds: a request's number
+# is its place here.
+FIRST_NAMES = ("create", "reserve", "onactive", "onfree", "withdraw", "activate",
+               "free", "check", "recover")
+REQUEST_NAMES = FIRST_NAMES + ("reserve_uncleared",)
 
 
 def some_target(dice, length):
@@ -740,7 +761,7 @@ def some_target(dice, length):
 # Numbers for a request that often fit the pool: sizes small, offsets at bodies.
 def some_numbers(dice, image, name, bodies):
     size = dice.pick((1, 64, 65, 100, 128, 200, 256, 500, 1000, dice.between(1, 2000)))
-    if name == "reserve":
+    if name in FORMS:
         return (size,)
     offset = dice.pick(bodies)
     numbers = (offset, some_target(dice, max(len(image), 16512)), dice.word())
@@ -759,7 +780,7 @@ def garbage():
         words = {dice.below(length // 8) * 8: dice.word()
                  for _ in range(dice.between(0, 24)) if length >= 8}
         image = with_words(bytearray(length), words)
-        name = dice.pick(REQUEST_NAMES)
+        name = dice.pick(FIRST_NAMES)
         yield case(image, name, *some_numbers(dice, image, name, (16448, 4096)),
                    fuse=some_fuse(dice))
 
@@ -773,7 +794,7 @@ def garbage_clumps():
                  for _ in range(dice.between(1, 30))}
         words[16384] = dice.pick((128, 192, length - 16384, dice.word()))
         image = with_words(bytearray(length), {**words, **pool_header(length)})
-        name = dice.pick(REQUEST_NAMES)
+        name = dice.pick(FIRST_NAMES)
         yield case(image, name, *some_numbers(dice, image, name, (16448, 16512, 16576)),
                    fuse=some_fuse(dice))
 
@@ -804,7 +825,7 @@ def nearly_right_pools():
                                        enumerate(clump(nbytes, state, *entries))})
             bodies.append(offset + 64)
             offset += max(nbytes // 64, 1) * 64
-        name = dice.pick(("check", "recover") + REQUEST_NAMES[1:])
+        name = dice.pick(("check", "recover") + FIRST_NAMES[1:])
         yield case(image, name, *some_numbers(dice, image, name, bodies),
                    fuse=some_fuse(dice))
 
@@ -844,7 +865,7 @@ def sound_pools():
     for index in range(160):
         image = sound_pool(dice, settled=index % 4 != 0)
         bodies = [pool.body_of(one) for one in pool.walk(image)]
-        names = REQUEST_NAMES[1:] if index % 4 else ("recover",)
+        names = FIRST_NAMES[1:] if index % 4 else ("recover",)
         name = dice.pick(names)
         yield case(image, name, *some_numbers(dice, image, name, bodies),
                    fuse=some_fuse(dice))
@@ -882,7 +903,7 @@ def damage():
             image = flip_bit(image, at + dice.below(8), dice.below(8))
         else:
             image = with_words(image, {at: damaged_word(dice, pool.word(image, at))})
-        name = "check" if dice.one_in(2) else dice.pick(REQUEST_NAMES[1:])
+        name = "check" if dice.one_in(2) else dice.pick(FIRST_NAMES[1:])
         yield case(image, name, *some_numbers(dice, image, name, bodies),
                    fuse=some_fuse(dice))
 
@@ -898,12 +919,12 @@ HISTORY_NAMES = ("reserve",) * 5 + ("onactive",) * 4 + ("onfree",) * 3 + (
 
 
 # The next request of a history: mostly what the pool is ready for.
-def next_request(dice, image):
+def next_request(dice, image, names):
     clumps = list(pool.walk(image))
     unready = any(map(pool.is_unfinished, clumps)) or pool.has_touching_free(clumps)
     if (unready and not dice.one_in(4)) or dice.one_in(30):
         return "recover", ()
-    name = dice.pick(HISTORY_NAMES)
+    name = dice.pick(names)
     fitting = [pool.body_of(one) for one in clumps
                if one.state in STATES_WANTED.get(name, (FREE,))]
     if dice.one_in(12):
@@ -927,20 +948,24 @@ def words_in(image):
     return sum(1 for at in range(0, len(image) - 7, 8) if any(image[at:at + 8]))
 
 
-# Histories in a pool of 32,768 bytes: what was reserved, listed, activated and
-# freed before shapes the image of the next case; now and then the power fails.
+# A history in a pool of 32,768 bytes: what was reserved, listed, activated and freed
+# before shapes the image of the next case; now and then the power fails, after one of
+# so many stores.  Every second step is a case.
+def history(dice, names, turn, fuses_for):
+    image = fresh(32768)
+    for step in range(60):
+        name, numbers = next_request(dice, image, names)
+        fuse = dice.pick(fuses_for(image, name, numbers)) if dice.one_in(6) else LARGEST
+        if words_in(image) > MOST_WORDS:
+            break
+        if step % 2 == turn:
+            yield case(image, name, *numbers, fuse=fuse)
+        image = after(image, name, *numbers, fuse=fuse)
+
+
 def histories():
     for seed in range(3001, 3010):
-        dice = Dice(seed)
-        image = fresh(32768)
-        for step in range(60):
-            name, numbers = next_request(dice, image)
-            fuse = dice.below(7) if dice.one_in(6) else LARGEST
-            if words_in(image) > MOST_WORDS:
-                break
-            if step % 2 == seed % 2:
-                yield case(image, name, *numbers, fuse=fuse)
-            image = after(image, name, *numbers, fuse=fuse)
+        yield from history(Dice(seed), HISTORY_NAMES, seed % 2, lambda *_: range(7))
 
 
 # ---------------------------------------------------------------------------
@@ -957,11 +982,14 @@ def create_over_the_same_words():
         yield case(fresh(16512), "create", fuse=fuse)
 
 
-# Reserve with a split where the rest's header and the empty list stand already;
-# the same without a split.
+# Reserve with a split where the rest's header, the empty list and a body of zeros
+# stand already; the same without a split.  Both forms.
 def kept_reserve_choices():
-    yield with_words(pool_of(clump(512, FREE)), {16512: 384, 16520: FREE}), "reserve", (64,)
-    yield pool_of(clump(128, ACTIVE), clump(192, FREE), clump(128, ACTIVE)), "reserve", (100,)
+    split = with_words(pool_of(clump(512, FREE)), {16512: 384, 16520: FREE})
+    whole = pool_of(clump(128, ACTIVE), clump(192, FREE), clump(128, ACTIVE))
+    for name in FORMS:
+        yield split, name, (64,)
+        yield whole, name, (100,)
 
 
 # Onactive into the second entry and onfree into the third, each with the value
@@ -1275,11 +1303,180 @@ def marked_pools():
     dice = Dice(2006)
     for index in range(80):
         image = marked_pool(dice, settled=index % 4 != 0)
-        name = dice.pick(REQUEST_NAMES[2:7]) if index % 4 else "recover"
+        name = dice.pick(FIRST_NAMES[2:7]) if index % 4 else "recover"
         fitting = [pool.body_of(one) for one in pool.walk(image)
                    if one.state in STATES_WANTED.get(name, (FREE,))]
         numbers = some_numbers(dice, image, name, fitting or (16448,))
         yield case(image, name, *numbers, fuse=some_fuse(dice))
+
+
+# ---------------------------------------------------------------------------
+# Reserved bodies come cleared (W5 of document 02)
+# ---------------------------------------------------------------------------
+
+# A size, and the nbytes of the FREE clump that it is reserved in: bodies of one and of
+# two units.  Split, with a rest of 128 or more, in whose header and body old words
+# stand; then whole, of just that size or larger than asked, by a little or by 64 too.
+CLEARED_SPLIT = ((64, 256), (5, 320), (65, 320), (128, 448))
+CLEARED_WHOLE = ((64, 128), (5, 128), (100, 192), (1, 192))
+
+
+# Each of them in each form: (image, name, numbers), over the two kinds of old words by
+# turns.
+def dirty_choices():
+    for index, (size, nbytes) in enumerate(CLEARED_SPLIT + CLEARED_WHOLE):
+        image = dirty_pool(nbytes, (OLD_RECORD, OLD_BYTES)[index % 2])
+        for name in FORMS:
+            yield image, name, (size,)
+
+
+# Every cut of these: each zero changes its word, so that the image between two stores
+# tells which came first, and which words are cleared: the body's, all of them, and none
+# of the rest's or of the neighbours'.
+def dirty_bodies_reserved():
+    for image, name, numbers in dirty_choices():
+        yield from cut_everywhere(image, name, *numbers)
+
+
+# Recovery of each of those cuts: it reads as not asked, and what was cleared stays so.
+def dirty_bodies_recovered():
+    for image, name, numbers in dirty_choices():
+        for fuse in range(1, stores_of(image, name, numbers)):
+            yield case(after(image, name, *numbers, fuse=fuse), "recover")
+
+
+# The other kind of old words, cut before the first zero, in the middle, before the last
+# and behind it, and not cut.
+def other_dirty_bodies_reserved():
+    for index, (size, nbytes) in enumerate(CLEARED_SPLIT + CLEARED_WHOLE):
+        image = dirty_pool(nbytes, (OLD_BYTES, OLD_RECORD)[index % 2])
+        length, zeros = stores_of(image, "reserve", (size,)), zeros_of(image, "reserve", (size,))
+        for back in (zeros + 1, zeros // 2 + 1, 2, 1, 0):
+            yield case(image, "reserve", size, fuse=length - back)
+        yield case(image, "reserve_uncleared", size)
+
+
+# Bodies of many units: 13, every word of which is an old one; 8 of them and 16, with a
+# rest, and old words up to the rest's first body word; whole clumps of the usual pool
+# and of the largest image here, and parts of them, with old words at both ends of the
+# body, on both sides of the border of its first unit, of its last, and of its middle.
+def many_units_choices():
+    yield dirty_pool(896, OLD_BYTES), (800,)
+    for units in (8, 16):
+        image = pool_of(clump(64 * units + 64 + 320, FREE, (7, 7), (0, 7), (7, 7)))
+        start, end = 16448, 16448 + 64 * units
+        image = with_old_body(image, start, 64, OLD_RECORD)
+        yield with_old_body(image, end - 256, 256 + 72, OLD_BYTES), (64 * units - 63,)
+    for length, size in ((32768, 16320), (32768, 16000), (65536, 49088), (65536, 48001)):
+        end = 16384 + pool.need_of(size)
+        middle = (16448 + end) // 128 * 64
+        old = {at + by: OLD_RECORD[5] + at for at in (16448, 16512, middle, end - 64, end)
+               for by in (-8, 0, 8) if 16448 <= at + by < length}
+        yield with_words(fresh(length), old), (size,)
+
+
+# Each of them in each form, cut where the zeros begin, in their middle and where they
+# end, and not cut.
+def many_units_reserved():
+    for image, numbers in many_units_choices():
+        for name in FORMS:
+            for fuse in telling_fuses(image, name, numbers) + [LARGEST]:
+                yield case(image, name, *numbers, fuse=fuse)
+
+
+# Recovery of some of those cuts: in the middle of the zeros, and just before the state.
+def many_units_recovered():
+    for image, numbers in many_units_choices():
+        length, zeros = stores_of(image, "reserve", numbers), zeros_of(image, "reserve", numbers)
+        for fuse in (length - 1 - zeros // 2, length - 1):
+            yield case(after(image, "reserve", *numbers, fuse=fuse), "recover")
+
+
+# The smallest pool, whose one body of 64 bytes has old words: each form with sizes up to
+# one that has no room, and every cut of one of them.
+def smallest_pool_reserved():
+    for old in (OLD_RECORD, OLD_BYTES):
+        image = with_old_body(fresh(16512), 16448, 64, old)
+        for size in (0, 1, 5, 8, 63, 64, 65, 128, LARGEST - 63, LARGEST):
+            yield from both_forms(image, size)
+    for name in FORMS:
+        yield from cut_everywhere(image, name, 5)
+
+
+# A reserve that was cut before its first zero, in the middle and before the state: what
+# is asked next.  Of a split the FREE clumps touch; of a whole clump the pool is settled,
+# and another reserve begins again: the first form clears the whole body, the second
+# leaves what the cut left.  Then each form after a recovery.
+def cut_reserves_asked():
+    for size, nbytes in ((65, 320), (100, 192)):
+        image = dirty_pool(nbytes, OLD_BYTES)
+        length = stores_of(image, "reserve", (size,))
+        for fuse in (length - 17, length - 9, length - 1):
+            cut = after(image, "reserve", size, fuse=fuse)
+            for name, numbers in (("reserve", (size,)), ("reserve_uncleared", (size,)),
+                                  ("reserve", (64,)), ("check", ()), ("free", (16448,)),
+                                  ("activate", (16576,))):
+                yield case(cut, name, *numbers)
+            for name in FORMS:
+                yield case(after(cut, "recover"), name, size)
+
+
+# The technician's record: an ACTIVE one with its valve and position, freed, and its body
+# reserved again, by itself or joined to its FREE neighbours; then activated.
+def old_records():
+    for before, following in NEIGHBOURS:
+        image = pool_of(clump(128, before), clump(128, ACTIVE), clump(256, following))
+        for at in (16448, 16576):
+            image = with_old_body(image, at, 64, OLD_RECORD)
+        freed = after(image, "free", 16576)
+        for name in FORMS:
+            for size in (64, 128):
+                yield case(freed, name, size)
+            place = pool.ask(bytearray(freed), name, (64,)).place
+            yield case(after(freed, name, 64), "activate", place)
+            yield case(after(freed, name, 64), "free", place)
+            yield case(after(freed, name, 64), "recover")
+
+
+# Lengths round the least one and fills that are no pool: the second form asks for no
+# less than the first.  (A pool has its zero padding, so that no fill but 0 makes one.)
+def no_pool_reserved():
+    for length in (0, 8, 16384, 16448, 16504, 16511, 16512, 16513, 16576, 32768, 65536):
+        yield case(shaped(length), "reserve_uncleared", 1)
+        yield case(bytearray(length), "reserve_uncleared", 1)
+    for name in FORMS:
+        for fill in (1, 165, 255):
+            yield case(filled(16512, fill), name, 64, fill=fill)
+            yield case(filled(16512, fill), name, 0, fuse=0, fill=fill)
+
+
+# Old words in every body of a FREE clump, as far as a case has room for them.
+def dirtied(dice, image):
+    offsets = [at for one in pool.walk(image) if one.state == FREE
+               for at in range(pool.body_of(one), pool.end_of(one), 8)]
+    room = MOST_WORDS - words_in(image)
+    return with_words(image, {at: dice.pick((dice.word(), 1, 2**56, LARGEST))
+                              for at in offsets[:room]})
+
+
+# Sound pools by chance with such bodies, reserved in either form, cut more often than
+# not, and where the zeros are more often than elsewhere.
+def dirty_pools():
+    dice = Dice(2007)
+    for index in range(100):
+        image = dirtied(dice, sound_pool(dice, settled=index % 9 != 0))
+        name = FORMS[index % 2]
+        size = dice.pick((1, 5, 64, 65, 100, 128, 192, dice.between(1, 320)))
+        fuses = telling_fuses(image, name, (size,)) + [LARGEST]
+        yield case(image, name, size, fuse=dice.pick(fuses))
+
+
+# Histories with both forms, in which more is freed than in the others, so that bodies
+# with assigned words in them are reserved again; a reserve is cut among its zeros too.
+def histories_of_both_forms():
+    names = FORMS * 3 + ("onactive",) * 4 + ("activate",) * 3 + ("free",) * 4 + ("onfree",)
+    for seed in (3013, 3017, 3032):
+        yield from history(Dice(seed), names, seed % 2, telling_fuses)
 
 
 FAMILIES = (
@@ -1299,7 +1496,10 @@ FAMILIES = (
     mixtures_listed, mixtures_listed_and_cut, listed_in_each_state,
     marked_targets_added, stored_targets, pending_pairs, waiting_fault_order,
     targets_judged, marked_targets_carried_out, equal_targets,
-    marked_targets_in_bodies, marked_pools)
+    marked_targets_in_bodies, marked_pools, dirty_bodies_reserved,
+    dirty_bodies_recovered, other_dirty_bodies_reserved, many_units_reserved,
+    many_units_recovered, smallest_pool_reserved, cut_reserves_asked, old_records,
+    no_pool_reserved, dirty_pools, histories_of_both_forms)
 
 
 def all_cases():

@@ -116,9 +116,9 @@ def histogram(cases):
 def print_histogram():
     cases = all_cases()
     counts = histogram(cases)
-    print("%-9s" % "answer" + "".join("%6d" % answer for answer in range(12)))
+    print("%-17s" % "answer" + "".join("%6d" % answer for answer in range(12)))
     for name in REQUEST_NAMES:
-        print("%-9s" % name + "".join("%6d" % counts[name, answer] for answer in range(12)))
+        print("%-17s" % name + "".join("%6d" % counts[name, answer] for answer in range(12)))
     print("cases", len(cases))
 
 

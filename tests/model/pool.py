@@ -1,13 +1,13 @@
 """A model of the pool, written from document 01 and in its order, and from
-requests W1 and W4 of document 02.
+requests W1, W4 and W5 of document 02.
 
 An image is a bytearray.  A request takes the image, its numbers and a fuse,
 changes the image as far as the fuse lasts, and returns
 (answer, place, fault, stores, flush_from, flush_to).  The comment above a
-function quotes the rule that the function follows: document 01's, or W1's or W4's
-where it says so.  What W4 changes, 01 no longer says: only the changed rule stands
-here.  Nothing here is quick or clever: it is meant to be held against the papers,
-line by line.
+function quotes the rule that the function follows: document 01's, or W1's, W4's or
+W5's where it says so.  What W4 and W5 change, 01 no longer says: only the changed
+rule stands here.  Nothing here is quick or clever: it is meant to be held against
+the papers, line by line.
 """
 
 from collections import namedtuple
@@ -477,30 +477,53 @@ def targets_cleared(clump):
 
 
 # "With a rest of 128 or more: nbytes and state FREE of the rest's header; then
-# 0 to the three targets of the chosen clump; nbytes = need; state RESERVED."
+# 0 to the three targets of the chosen clump; nbytes = need": its sizes are right.
 def split_stores(clump, need):
     rest = clump.offset + need
     return ([(rest, clump.nbytes - need), (rest + STATE_WORD, FREE)]
-            + targets_cleared(clump)
-            + [(clump.offset, need), state_store(clump, RESERVED)])
+            + targets_cleared(clump) + [(clump.offset, need)])
 
 
-# "With a smaller rest the whole clump is used: targets, state, 4 stores."
-def whole_stores(clump):
-    return targets_cleared(clump) + [state_store(clump, RESERVED)]
+# W5: "0 to every word of the body, upward", of a clump whose size is right: the body
+# ends where the next clump begins, however small the size that was asked for.
+def body_cleared(clump):
+    return [(offset, 0) for offset in range(body_of(clump), end_of(clump), 8)]
 
 
-# "reserve: the body's offset"; "4 | size 0"; "5 | no room"
-@request
-def reserve(image, size, fuse=LARGEST):
+# "With a rest of 128 or more [it is split] [..]; state RESERVED.  With a smaller rest
+# the whole clump is used: targets, state".  W5: "Reserve stores 0 to every word of the
+# body, upward, after the sizes are right and before the state becomes RESERVED.";
+# "A second form of the request keeps the old rule": 7 stores or 4.
+def reserve_stores(clump, need, clears):
+    if clump.nbytes - need >= 128:
+        sizing, taken = split_stores(clump, need), clump._replace(nbytes=need)
+    else:
+        sizing, taken = targets_cleared(clump), clump
+    clearing = body_cleared(taken) if clears else []
+    return sizing + clearing + [state_store(taken, RESERVED)]
+
+
+# "reserve: the body's offset"; "4 | size 0"; "5 | no room".  Both of W5's forms.
+def take_clump(image, size, clears, fuse):
     clumps = settled_clumps(image)
     if size == 0:
         raise Refused(4)
     need = need_of(size)
     clump = first_fit(clumps, need)
-    splits = clump.nbytes - need >= 128
-    stores = split_stores(clump, need) if splits else whole_stores(clump)
-    return carry_out(image, stores, body_of(clump), fuse)
+    return carry_out(image, reserve_stores(clump, need, clears), body_of(clump), fuse)
+
+
+# W5: "Reserved bodies come cleared."
+@request
+def reserve(image, size, fuse=LARGEST):
+    return take_clump(image, size, True, fuse)
+
+
+# W5: "A second form of the request keeps the old rule, for callers that write every
+# byte themselves": "The body isn't cleared."
+@request
+def reserve_uncleared(image, size, fuse=LARGEST):
+    return take_clump(image, size, False, fuse)
 
 
 # "into the [..] entry, value, then target.  Any value.  The target must be valid
@@ -682,8 +705,10 @@ def reading(image):
 
 
 # The requests of which a cut, wherever it falls, "equals that of recovering the
-# image before the request".
-UNDONE_BY_A_CUT = ("reserve", "onactive", "onfree", "withdraw", "recover")
+# image before the request".  W5, of reserve: "After a cut and recovery it still reads
+# as not asked."
+UNDONE_BY_A_CUT = ("reserve", "reserve_uncleared", "onactive", "onfree", "withdraw",
+                   "recover")
 
 
 # At which store, counted from 1, a cut turns from reading as not asked to reading as
@@ -709,15 +734,16 @@ def reads_as_finished(image, name, numbers, stores):
 
 
 # "create, reserve, onactive, onfree, withdraw, activate, free, check, recover":
-# the nine requests by name, with how many numbers each takes.
+# the nine requests by name, and W5's "second form", with how many numbers each takes.
 NUMBERS_TAKEN = {
     "create": 0, "reserve": 1, "onactive": 3, "onfree": 3, "withdraw": 1,
-    "activate": 1, "free": 1, "check": 0, "recover": 0,
+    "activate": 1, "free": 1, "check": 0, "recover": 0, "reserve_uncleared": 1,
 }
 
 CARRIED_OUT_BY = {
     "create": create, "reserve": reserve, "onactive": onactive, "onfree": onfree,
     "withdraw": withdraw, "activate": activate, "free": free, "recover": recover,
+    "reserve_uncleared": reserve_uncleared,
 }
 
 

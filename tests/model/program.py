@@ -11,8 +11,10 @@ POOL_BYTES = 32768
 LONGEST_LINE = 200
 
 # "Each input line is a request name (not create or check) and decimal numbers:
-# size; or offset; or offset, target, value; recover takes none."
-REQUESTS = ("reserve", "onactive", "onfree", "withdraw", "activate", "free", "recover")
+# size; or offset; or offset, target, value; recover takes none."  W5 of document 02
+# adds a second form of reserve.
+REQUESTS = ("reserve", "reserve_uncleared", "onactive", "onfree", "withdraw", "activate",
+            "free", "recover")
 
 NUMBERS_WANTED = {name.encode(): pool.NUMBERS_TAKEN[name] for name in REQUESTS}
 NUMBERS_WANTED[b"fuse"] = 1

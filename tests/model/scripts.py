@@ -22,8 +22,11 @@ SCRIPTS = {}
 # Room
 # ---------------------------------------------------------------------------
 
-# Document 01's whole case.
+# Document 01's whole case: W5 of document 02 has it print 135 where it printed 7.
 SCRIPTS["whole-case"] = lines("reserve 1000", "activate 16448", "walk")
+
+# The same in the form of reserve that doesn't clear the body: it prints 7.
+SCRIPTS["whole-case-uncleared"] = lines("reserve_uncleared 1000", "activate 16448", "walk")
 
 SCRIPTS["empty-input"] = b""
 
@@ -241,6 +244,61 @@ SCRIPTS["freeing-of-reserved-cut-and-asked-again"] = lines(*(
      "free 16448", "walk", "recover", "free 16448", "walk")))
 
 # ---------------------------------------------------------------------------
+# Reserved bodies come cleared (W5 of document 02)
+# ---------------------------------------------------------------------------
+
+# The technician's record, at 16448: its valve (16480) and its position (16488) are set
+# when it is activated.  It is freed, and reserved again in the second form: the old valve
+# and position stand there still.  It is freed once more, and reserved in the first form:
+# it reads 0, for 8 more stores.  No line prints a byte of a body: the stores tell, and
+# the model's tests look.
+SCRIPTS["old-valve-position"] = lines(
+    "reserve 64", "onactive 16448 16480 3", "onactive 16448 16488 77", "activate 16448",
+    "free 16448", "reserve_uncleared 64", "activate 16448", "free 16448",
+    "reserve 64", "activate 16448", "walk")
+
+# A reserve is cut in the middle of its zeros: 6 stores and 4 of 8 zeros.  Nothing else is
+# granted until it is recovered; then it is reserved again, and is whole.
+SCRIPTS["reserve-cut-in-its-zeros"] = lines(
+    "reserve 64", "onactive 16448 16448 1", "onactive 16448 16472 2", "onactive 16448 16504 3",
+    "activate 16448", "free 16448", "fuse 10", "reserve 64", "walk", "reserve 64",
+    "reserve_uncleared 64", "free 16448", "recover", "walk", "reserve 64", "activate 16448",
+    "walk")
+
+# Both forms by turns: the same tests, answers and places.
+SCRIPTS["reserve-uncleared"] = lines(
+    "reserve_uncleared 64", "reserve 64", "reserve_uncleared 65", "reserve 65",
+    "reserve_uncleared 0", "reserve 0", "reserve_uncleared 5", "reserve 5",
+    "reserve_uncleared 16320", "reserve 16320", "reserve_uncleared %d" % LARGEST,
+    "reserve %d" % LARGEST, "onactive 16448 4096 1", "activate 16448", "walk",
+    "free 16448", "reserve_uncleared 1", "free 16448", "reserve 1", "free 16448", "fuse 1",
+    "free 16576", "walk", "reserve_uncleared 1", "reserve 1", "reserve_uncleared 0",
+    "recover", "reserve_uncleared 64", "fuse 1", "activate 16448", "walk",
+    "reserve_uncleared 1", "reserve_uncleared 0", "recover", "walk",
+    "reserve_uncleared 16193", "reserve_uncleared 16192", "walk")
+
+# Lines that aren't requests, beside its name; its number missing, one too many, out of
+# range, with something behind it.
+SCRIPTS["bad-lines-reserve-uncleared"] = raw(
+    b"reserve_uncleared", b"reserve_uncleared ", b"reserve_uncleared 64 64",
+    b"reserve_uncleared 64 ", b"reserve_uncleared  64", b" reserve_uncleared 64",
+    b"reserve_uncleared\t64", b"reserve_uncleared 64\r", b"reserve_uncleared 64\0",
+    b"reserve_uncleared 64x", b"reserve_uncleared 64;", b"reserve_uncleared +64",
+    b"reserve_uncleared -64", b"reserve_uncleared 0x40", b"reserve_uncleared 1e3",
+    b"reserve_uncleared x", b"reserve_uncleared 18446744073709551616",
+    b"reserve_uncleared 18446744073709551680", b"reserve_uncleared 99999999999999999999",
+    b"reserve uncleared 64", b"reserve uncleared", b"reserve-uncleared 64",
+    b"reserveuncleared 64", b"reserve_ 64", b"reserve_unclear 64", b"reserve_uncleare 64",
+    b"reserve_uncleareds 64", b"reserve_uncleared64", b"reserve__uncleared 64",
+    b"Reserve_uncleared 64", b"RESERVE_UNCLEARED 64", b"reserve_Uncleared 64",
+    b"uncleared 64", b"_uncleared 64", b"64 reserve_uncleared", b"reserve_cleared 64",
+    b"reserve_uncleared walk", b"walk", b"reserve_uncleared 064",
+    b"reserve_uncleared " + b"64".zfill(182), b"reserve_uncleared " + b"64".zfill(183),
+    b"reserve_uncleared " + b"18446744073709551615".zfill(182), b"walk",
+    b"fuse 6", b"reserve_uncleared", b"reserve_uncleared 64x", b"reserve_uncleared 64",
+    b"walk")
+
+# ---------------------------------------------------------------------------
 # Fuses
 # ---------------------------------------------------------------------------
 
@@ -249,19 +307,30 @@ SCRIPTS["fuse-zero"] = lines(
     "fuse 0", "activate 16448", "walk", "fuse 0", "free 16448", "walk", "fuse 0", "recover",
     "walk", "recover", "fuse 0", "recover", "walk")
 
+# Reserve makes 7 stores where it splits, or 4, and one for each 8 bytes of the body.
 SCRIPTS["fuse-exact"] = lines(
-    "fuse 7", "reserve 64", "fuse 2", "onactive 16448 4096 1", "fuse 4", "activate 16448",
-    "fuse 2", "onfree 16448 4096 1", "fuse 1", "withdraw 16448", "fuse 3", "free 16448",
-    "fuse 7", "reserve 16192", "fuse 4", "reserve 64", "fuse 3", "recover", "walk")
+    "fuse %d" % (7 + 64 // 8), "reserve 64", "fuse 2", "onactive 16448 4096 1", "fuse 4",
+    "activate 16448", "fuse 2", "onfree 16448 4096 1", "fuse 1", "withdraw 16448",
+    "fuse 3", "free 16448", "fuse %d" % (7 + 16192 // 8), "reserve 16192",
+    "fuse %d" % (4 + 64 // 8), "reserve 64", "fuse 3", "recover", "walk")
+
+SCRIPTS["fuse-exact-uncleared"] = lines(
+    "fuse 7", "reserve_uncleared 64", "free 16448", "fuse 7", "reserve_uncleared 16192",
+    "fuse 4", "reserve_uncleared 64", "fuse 3", "recover", "walk")
 
 SCRIPTS["fuse-one-short"] = lines(
-    "fuse 6", "reserve 64", "walk", "reserve 64", "recover", "walk", "reserve 64",
-    "fuse 1", "onactive 16448 4096 1", "onactive 16448 4096 1", "fuse 0", "withdraw 16448",
-    "fuse 3", "activate 16448", "walk", "recover", "walk", "fuse 2", "free 16448", "walk",
-    "fuse 0", "recover", "recover", "walk")
+    "fuse %d" % (6 + 64 // 8), "reserve 64", "walk", "reserve 64", "recover", "walk",
+    "reserve 64", "fuse 1", "onactive 16448 4096 1", "onactive 16448 4096 1", "fuse 0",
+    "withdraw 16448", "fuse 3", "activate 16448", "walk", "recover", "walk", "fuse 2",
+    "free 16448", "walk", "fuse 0", "recover", "recover", "walk")
+
+SCRIPTS["fuse-one-short-uncleared"] = lines(
+    "fuse 6", "reserve_uncleared 64", "walk", "reserve_uncleared 64", "recover", "walk",
+    "reserve_uncleared 16192", "fuse 3", "reserve_uncleared 64", "walk",
+    "reserve_uncleared 64", "walk")
 
 SCRIPTS["fuse-doubled"] = lines(
-    "fuse 0", "fuse 7", "reserve 64", "fuse 7", "fuse 0", "reserve 64", "fuse 1", "fuse 1",
+    "fuse 0", "fuse 15", "reserve 64", "fuse 15", "fuse 0", "reserve 64", "fuse 1", "fuse 1",
     "fuse 2", "onactive 16448 4096 1", "walk")
 
 SCRIPTS["fuse-before-walk"] = lines("fuse 3", "walk", "reserve 64", "walk", "reserve 64")
@@ -273,9 +342,10 @@ SCRIPTS["fuse-used-up-by-a-refusal"] = lines(
     "fuse 0", "reserve 0", "reserve 64", "fuse 0", "free 1", "activate 16448", "fuse 0",
     "reserve 20000", "reserve 64", "fuse 0", "activate 16448", "free 16448", "walk")
 
+# Some of the bad lines would have a fuse that is enough.
 SCRIPTS["fuse-bad-line-leaves-the-earlier"] = lines(
-    "fuse 2", "fuse", "fuse -1", "fuse 18446744073709551616", "fuse 7 7", "fuse x", "Fuse 7",
-    "fuse  7", "reserve 64", "fuse x", "reserve 64", "walk")
+    "fuse 2", "fuse", "fuse -1", "fuse 18446744073709551616", "fuse 15 15", "fuse x",
+    "Fuse 15", "fuse  15", "reserve 64", "fuse x", "reserve 64", "walk")
 
 SCRIPTS["fuse-at-the-end"] = lines("reserve 64", "fuse 0")
 
@@ -407,9 +477,27 @@ SCRIPTS["recovery-of-a-freeing-at-every-cut"] = lines(*(
      "walk", "fuse %d" % fuse, "free 16576", "walk", "reserve 1", "recover", "walk",
      "recover", "free 16576", "recover", "walk")))
 
+# Reserve with a split, of one unit at every cut, uncut and with a store to spare; then
+# of 16 units, cut before the zeros, after one, in their middle (6 and 64), before the
+# last and behind it, uncut (7 and 128) and with a store to spare.
 SCRIPTS["recovery-of-a-reserve-at-every-cut"] = lines(*(
+    line for size, fuses in ((64, range(17)),
+                             (1000, (0, 1, 2, 3, 4, 5, 6, 7, 70, 133, 134, 135, 136)))
+    for fuse in fuses for line in
+    ("fuse %d" % fuse, "reserve %d" % size, "walk", "reserve 1", "recover", "walk")))
+
+SCRIPTS["recovery-of-an-uncleared-reserve-at-every-cut"] = lines(*(
     line for fuse in range(9) for line in
-    ("fuse %d" % fuse, "reserve 1000", "walk", "reserve 1", "recover", "walk")))
+    ("fuse %d" % fuse, "reserve_uncleared 1000", "walk", "reserve_uncleared 1", "recover",
+     "walk")))
+
+# The same with no rest: 4 stores and 8 zeros.  Cut, it leaves nothing to recover, and
+# the next reserve is granted without a recovery.
+SCRIPTS["recovery-of-a-whole-reserve-at-every-cut"] = lines(
+    "reserve 16192", "activate 16448", *(
+        line for fuse in range(14) for line in
+        ("fuse %d" % fuse, "reserve 64", "walk", "recover", "fuse %d" % fuse, "reserve 1",
+         "reserve_uncleared 1", "recover", "walk")))
 
 SCRIPTS["recovery-of-reserved-clumps"] = lines(
     "reserve 64", "reserve 128", "reserve 192", "activate 16576", "reserve 256", "walk",

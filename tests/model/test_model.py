@@ -1,5 +1,5 @@
-"""Holds the model against document 01 and requests W1 and W4 of document 02: their
-numbers, worked by hand, and their rules.
+"""Holds the model against document 01 and requests W1, W4 and W5 of document 02:
+their numbers, worked by hand, and their rules.
 
     python3 -m unittest discover -s tests/model
 """
@@ -12,9 +12,10 @@ import generate
 import pool
 import program
 from build import (
-    Dice, EMPTY, MARKED, MIXED, MIXED_ACTIVE, MIXED_BARE_ACTIVE, MIXED_FREE,
-    MIXED_RESERVED, MIXTURES, UNMARKED, after, case, clump, dusty, filled, fresh,
-    mixed_entries, mixture_pool, pool_of, stores_of, with_words)
+    Dice, EMPTY, FORMS, MARKED, MIXED, MIXED_ACTIVE, MIXED_BARE_ACTIVE, MIXED_FREE,
+    MIXED_RESERVED, MIXTURES, OLD_BYTES, OLD_RECORD, UNMARKED, after, case, clump,
+    dirty_pool, dusty, filled, fresh, mixed_entries, mixture_pool, pool_of, stores_of,
+    telling_fuses, with_old_body, with_words)
 from pool import FREE, RESERVED, ACTIVATING, ACTIVE, FREEING, LARGEST
 from scripts import SCRIPTS
 
@@ -49,53 +50,66 @@ def heard(image, one):
 
 class NumbersToTry(unittest.TestCase):
 
-    # A: size 1 needs 128, 64 needs 128, 65 needs 192, 1000 needs 1088.
+    # Reserve in both forms.  Of the second, 01's: how many stores, and the bytes to
+    # flush.  Of the first, W5's: "The store counts of 01 grow by body bytes divided by
+    # 8", and the body's bytes are to be flushed too.
+    def assert_reserved(self, image, size, place, uncleared, cleared, expected):
+        for name, counted in (("reserve_uncleared", uncleared), ("reserve", cleared)):
+            behind = bytearray(image)
+            self.assertEqual(pool.ask(behind, name, (size,)), (0, place, 0, *counted))
+            self.assertEqual(tiles(behind), expected)
+
+    def assert_no_room(self, image, size):
+        for name in FORMS:
+            behind = bytearray(image)
+            self.assertEqual(pool.ask(behind, name, (size,)), (5, 0, 0, 0, 0, 0))
+            self.assertEqual(behind, image)
+
+    # A: size 1 needs 128, 64 needs 128, 65 needs 192, 1000 needs 1088.  The bodies
+    # have 64, 64, 128 and 1024 bytes.
     def test_a(self):
-        for size, need in ((1, 128), (64, 128), (65, 192), (1000, 1088)):
-            image = fresh(32768)
-            # The highest word is the state of the rest.
-            self.assertEqual(pool.reserve(image, size),
-                             (0, 16448, 0, 7, 16384, 16384 + need + 16))
-            self.assertEqual(tiles(image), [(need, RESERVED), (16384 - need, FREE)])
+        for size, need, zeros in ((1, 128, 8), (64, 128, 8), (65, 192, 16), (1000, 1088, 128)):
+            # The highest word is the state of the rest, and the body lies below it.
+            flushed = (16384, 16384 + need + 16)
+            self.assert_reserved(fresh(32768), size, 16448, (7, *flushed),
+                                 (7 + zeros, *flushed),
+                                 [(need, RESERVED), (16384 - need, FREE)])
 
     # B: 256, RESERVED 1088, FREE 960, 256.
     def test_b(self):
         image = pool_of(clump(256, ACTIVE), clump(2048, FREE), clump(256, ACTIVE))
-        self.assertEqual(pool.reserve(image, 1000), (0, 16704, 0, 7, 16640, 17744))
-        self.assertEqual(tiles(image), [(256, ACTIVE), (1088, RESERVED), (960, FREE),
-                                        (256, ACTIVE)])
+        self.assert_reserved(image, 1000, 16704, (7, 16640, 17744), (135, 16640, 17744),
+                             [(256, ACTIVE), (1088, RESERVED), (960, FREE), (256, ACTIVE)])
 
     # C: of 1216, split to 1088 and 128.
     def test_c(self):
         image = pool_of(clump(128, ACTIVE), clump(1216, FREE))
-        self.assertEqual(pool.reserve(image, 1000), (0, 16576, 0, 7, 16512, 17616))
-        self.assertEqual(tiles(image), [(128, ACTIVE), (1088, RESERVED), (128, FREE)])
+        self.assert_reserved(image, 1000, 16576, (7, 16512, 17616), (135, 16512, 17616),
+                             [(128, ACTIVE), (1088, RESERVED), (128, FREE)])
 
-    # D: of 1152, all taken.
+    # D: of 1152, all taken: a body of 1088 bytes, up to 17663.
     def test_d(self):
         image = pool_of(clump(128, ACTIVE), clump(1152, FREE))
-        self.assertEqual(pool.reserve(image, 1000), (0, 16576, 0, 4, 16520, 16568))
-        self.assertEqual(tiles(image), [(128, ACTIVE), (1152, RESERVED)])
+        self.assert_reserved(image, 1000, 16576, (4, 16520, 16568), (140, 16520, 17664),
+                             [(128, ACTIVE), (1152, RESERVED)])
 
-    # E: of 1088, taken.
+    # E: of 1088, taken: a body of 1024 bytes.
     def test_e(self):
         image = pool_of(clump(128, ACTIVE), clump(1088, FREE))
-        self.assertEqual(pool.reserve(image, 1000), (0, 16576, 0, 4, 16520, 16568))
-        self.assertEqual(tiles(image), [(128, ACTIVE), (1088, RESERVED)])
+        self.assert_reserved(image, 1000, 16576, (4, 16520, 16568), (132, 16520, 17600),
+                             [(128, ACTIVE), (1088, RESERVED)])
 
     # F: of 1024, answer 5.
     def test_f(self):
-        image = pool_of(clump(128, ACTIVE), clump(1024, FREE))
-        before = bytes(image)
-        self.assertEqual(pool.reserve(image, 1000), (5, 0, 0, 0, 0, 0))
-        self.assertEqual(image, before)
+        self.assert_no_room(pool_of(clump(128, ACTIVE), clump(1024, FREE)), 1000)
 
-    # G: FREE 16384: size 16320 fits, 16321 doesn't; 18446744073709551615 gets 5.
+    # G: FREE 16384: size 16320 fits, 16321 doesn't; 18446744073709551615 gets 5.  The
+    # body of 16,320 bytes is 2,040 words.
     def test_g(self):
-        self.assertEqual(pool.reserve(fresh(32768), 16320), (0, 16448, 0, 4, 16392, 16440))
-        self.assertEqual(pool.reserve(fresh(32768), 16321), (5, 0, 0, 0, 0, 0))
-        self.assertEqual(pool.reserve(fresh(32768), 18446744073709551615),
-                         (5, 0, 0, 0, 0, 0))
+        self.assert_reserved(fresh(32768), 16320, 16448, (4, 16392, 16440),
+                             (2044, 16392, 32768), [(16384, RESERVED)])
+        self.assert_no_room(fresh(32768), 16321)
+        self.assert_no_room(fresh(32768), 18446744073709551615)
 
     def pool_of_h(self):
         image = pool_of(clump(128, RESERVED, (4096, 7), (4096, 9)), clump(128, FREE))
@@ -288,7 +302,7 @@ class Stores(WordByWord):
         image = with_words(image, {16520: 77})
         expected = [(16512, 384), (16520, 0), (16400, 0), (16416, 0), (16432, 0),
                     (16384, 128), (16392, 1)]
-        self.assert_order(image, "reserve", (64,), expected)
+        self.assert_order(image, "reserve_uncleared", (64,), expected)
 
     def test_order_of_a_recovery(self):
         image = pool_of(clump(128, RESERVED), clump(128, FREEING, (4096, 1)),
@@ -363,20 +377,31 @@ class BytesToFlush(unittest.TestCase):
             *[(16456, 16768)] * 6)
 
     # The rest's header at 16512, the targets at 16400, 16416 and 16432, the nbytes
-    # at 16384, the state at 16392.
+    # at 16384, the state at 16392.  The body's eight words, from 16448 on, lie between
+    # them.
     def test_reserve_with_a_split(self):
         image = pool_of(clump(512, FREE, (1, 1), (2, 2), (3, 3)))
-        self.assert_at_every_cut(
-            image, "reserve", (64,), (0, 0), (16512, 16520), (16512, 16528),
-            (16400, 16528), (16400, 16528), (16400, 16528), (16384, 16528),
-            (16384, 16528))
+        for name, zeros in (("reserve_uncleared", 0), ("reserve", 8)):
+            self.assert_at_every_cut(
+                image, name, (64,), (0, 0), (16512, 16520), (16512, 16528),
+                (16400, 16528), (16400, 16528), (16400, 16528), (16384, 16528),
+                *[(16384, 16528)] * zeros, (16384, 16528))
 
     # The targets upward from 16528, then the state at 16520; nbytes isn't stored.
     def test_reserve_of_a_whole_clump(self):
         image = pool_of(clump(128, ACTIVE), clump(192, FREE, (1, 1), (2, 2), (3, 3)))
         self.assert_at_every_cut(
-            image, "reserve", (100,), (0, 0), (16528, 16536), (16528, 16552),
+            image, "reserve_uncleared", (100,), (0, 0), (16528, 16536), (16528, 16552),
             (16528, 16568), (16520, 16568))
+
+    # The same with the body's sixteen words, from 16576 on: the end goes up by a word
+    # with each.
+    def test_reserve_of_a_whole_clump_cleared(self):
+        image = pool_of(clump(128, ACTIVE), clump(192, FREE, (1, 1), (2, 2), (3, 3)))
+        self.assert_at_every_cut(
+            image, "reserve", (100,), (0, 0), (16528, 16536), (16528, 16552),
+            (16528, 16568), *((16528, end) for end in range(16584, 16712, 8)),
+            (16520, 16704))
 
     # The value of the second entry at 16424, then its target at 16416.  The word
     # that the target names isn't stored to.
@@ -464,6 +489,10 @@ class BytesToFlush(unittest.TestCase):
             (3, 0, 0, with_words(MIXED, {16392: FREEING}), "reserve", (1,)),
             (4, 0, 0, MIXED, "reserve", (0,)),
             (5, 0, 0, MIXED, "reserve", (1000,)),
+            (2, 16640, 2, with_words(MIXED, {16648: 5}), "reserve_uncleared", (1,)),
+            (3, 0, 0, with_words(MIXED, {16392: FREEING}), "reserve_uncleared", (1,)),
+            (4, 0, 0, MIXED, "reserve_uncleared", (0,)),
+            (5, 0, 0, MIXED, "reserve_uncleared", (1000,)),
             (6, 0, 0, MIXED, "activate", (16384,)),
             (7, 0, 0, MIXED, "free", (MIXED_FREE,)),
             (8, 0, 0, MIXED, "onactive", (MIXED_RESERVED, 4096, 1)),
@@ -487,11 +516,16 @@ class BytesToFlush(unittest.TestCase):
         self.assertEqual(pool.create(image), (0, 0, 0, 1033, 4096, 16448))
         self.assertEqual(image, fresh(16512))
 
-    # The three targets of an empty list, at 16400, 16416 and 16432.
+    # The three targets of an empty list, at 16400, 16416 and 16432; then, in the first
+    # form, the eight words of a body of zeros, at 16448 to 16504.
     def test_kept_by_reserve(self):
         image = pool_of(clump(128, FREE))
         for fuse, flushed in ((1, (16400, 16408)), (2, (16400, 16424)),
                               (3, (16400, 16440))):
+            self.assert_kept(image, "reserve", (64,), fuse, flushed)
+            self.assert_kept(image, "reserve_uncleared", (64,), fuse, flushed)
+        for fuse, flushed in ((4, (16400, 16456)), (5, (16400, 16464)),
+                              (11, (16400, 16512))):
             self.assert_kept(image, "reserve", (64,), fuse, flushed)
 
     # The value that the empty entry has kept.
@@ -742,7 +776,8 @@ class OnfreeBeforeActivation(WordByWord):
                 self.assertEqual(recovered(behind)[4096:8192],
                                  after(image, "free", 16576)[4096:8192])
                 self.assertNotEqual(recovered(behind)[4096:8192], bytes(4096))
-        for name, numbers in (("reserve", (1,)), ("onactive", (16576, 4096, 1)),
+        for name, numbers in (("reserve", (1,)), ("reserve_uncleared", (1,)),
+                              ("onactive", (16576, 4096, 1)),
                               ("onfree", (16576, 4096, 1)), ("withdraw", (16576,)),
                               ("recover", ())):
             self.assertEqual(pool.turning_store(mixture_pool(RESERVED, (UNMARKED, MARKED, EMPTY)),
@@ -785,7 +820,8 @@ def mixtures_asked():
         for neighbours in ((ACTIVE, ACTIVE), (FREE, FREE), (RESERVED, FREE)):
             for state in (RESERVED, ACTIVE):
                 image = dusty(mixture_pool(state, mixture, *neighbours), 21)
-                for name, numbers in (("reserve", (64,)), ("onactive", (16576, 4096, 1)),
+                for name, numbers in (("reserve", (64,)), ("reserve_uncleared", (64,)),
+                                      ("onactive", (16576, 4096, 1)),
                                       ("onfree", (16576, 16576, 1)), ("withdraw", (16576,)),
                                       ("activate", (16576,)), ("free", (16576,)),
                                       ("recover", ())):
@@ -832,6 +868,213 @@ class CutsOfMixtures(unittest.TestCase):
                 for again in range(stores_of(cut, "recover", ())):
                     twice = recovered(after(cut, "recover", fuse=again))
                     self.assertEqual(pool.reading(twice), pool.reading(whole))
+
+
+# ---------------------------------------------------------------------------
+# W5: "Reserved bodies come cleared."
+# ---------------------------------------------------------------------------
+
+# A copy with old words in every body of a FREE clump.
+def with_old_bodies(image, old):
+    for one in pool.walk(image):
+        if one.state == FREE:
+            image = with_old_body(image, one.offset + 64, one.nbytes - 64, old)
+    return image
+
+
+# The body of the clump with the body at this offset, and its state.
+def body_and_state(image, place):
+    nbytes, state = pool.word(image, place - 64), pool.word(image, place - 56)
+    return bytes(image[place:place - 64 + nbytes]), state
+
+
+# Sound, settled pools by chance in which every FREE body has old words, and a size that
+# fits: (image, size).
+def dirty_pools(seed, wanted):
+    dice = Dice(seed)
+    while wanted:
+        image = with_old_bodies(cases.sound_pool(dice, settled=True),
+                                (OLD_RECORD, OLD_BYTES)[wanted % 2])
+        size = dice.pick((1, 5, 63, 64, 65, 128, 129, 192, 320))
+        if pool.reserve(bytearray(image), size).answer == 0:
+            wanted -= 1
+            yield image, size
+
+
+class BodiesComeCleared(WordByWord):
+
+    # The stores of both forms: what comes before, the zeros, and the state.
+    def assert_forms(self, image, size, before, zeros, state):
+        self.assert_order(image, "reserve_uncleared", (size,), before + [state])
+        self.assert_order(image, "reserve", (size,), before + zeros + [state])
+
+    # "Reserve stores 0 to every word of the body, upward, after the sizes are right and
+    # before the state becomes RESERVED."  Of a FREE clump of 512 at 16512, with old
+    # words in it: the rest's nbytes and state at 16640, three targets, nbytes.
+    def test_order_of_a_split(self):
+        image = dirty_pool(512, OLD_RECORD)
+        before = [(16640, 384), (16648, 0), (16528, 0), (16544, 0), (16560, 0), (16512, 128)]
+        zeros = [(16576, 0), (16584, 0), (16592, 0), (16600, 0), (16608, 0), (16616, 0),
+                 (16624, 0), (16632, 0)]
+        for size in (1, 5, 63, 64):
+            self.assert_forms(image, size, before, zeros, (16520, 1))
+
+    # Two units: the rest's header is at 16704, just behind the body.
+    def test_order_of_a_split_for_two_units(self):
+        image = dirty_pool(512, OLD_BYTES)
+        before = [(16704, 320), (16712, 0), (16528, 0), (16544, 0), (16560, 0), (16512, 192)]
+        zeros = [(at, 0) for at in range(16576, 16704, 8)]
+        self.assert_forms(image, 65, before, zeros, (16520, 1))
+
+    # Not split: "the whole clump is used", and its whole body is cleared, up to 16703,
+    # also where one byte was asked for and the clump is 64 bytes larger than its need.
+    def test_order_of_a_whole_clump(self):
+        for old in (OLD_RECORD, OLD_BYTES):
+            image = dirty_pool(192, old)
+            before = [(16528, 0), (16544, 0), (16560, 0)]
+            zeros = [(at, 0) for at in range(16576, 16704, 8)]
+            for size in (1, 64, 65, 100, 128):
+                self.assert_forms(image, size, before, zeros, (16520, 1))
+
+    # "The store counts of 01 grow by body bytes divided by 8": from 7, or from 4.
+    def test_counts(self):
+        for nbytes in range(128, 1600, 64):
+            image = pool_of(clump(nbytes, FREE))
+            for need in range(128, nbytes + 1, 64):
+                split = nbytes - need >= 128
+                count, body = (7, need - 64) if split else (4, nbytes - 64)
+                for size in (need - 64 - 63, need - 64 - 59, need - 64):
+                    self.assertEqual([stores_of(image, name, (size,)) for name in FORMS],
+                                     [count + body // 8, count])
+
+    # After a finished reserve of the first form every byte of the new body is 0, and in
+    # no image that a cut of it leaves is the new clump RESERVED while a byte of its body
+    # is not 0.
+    def assert_cleared(self, image, size):
+        given = pool.reserve(bytearray(image), size)
+        for fuse in range(given.stores + 1):
+            cut = after(image, "reserve", size, fuse=fuse)
+            body, state = body_and_state(cut, given.place)
+            self.assertTrue(state != RESERVED or not any(body))
+        # The last one is the finished one.
+        self.assertEqual((state, body), (RESERVED, bytes(len(body))))
+        self.assertGreaterEqual(len(body), size)
+
+    def test_cleared(self):
+        for image, size in dirty_pools(41, 100):
+            self.assert_cleared(image, size)
+
+    # A pool made over other bytes: create stores nothing into the bodies, so that every
+    # byte of them is an old one.  (No case can hold such a pool: its zero padding alone
+    # is more words than a case has room for.)
+    def test_cleared_over_a_fill(self):
+        for fill in (1, 165, 255):
+            image = filled(16832, fill)
+            pool.create(image)
+            for size in (1, 64, 65, 256, 320, 384):
+                self.assert_cleared(image, size)
+                kept = after(image, "reserve_uncleared", size)
+                self.assertEqual(set(kept[16448:16448 + size]), {fill})
+
+    # The second form doesn't keep that promise: "The body isn't cleared."  It changes no
+    # byte of the new body, wherever it is cut.
+    def test_not_cleared(self):
+        for image, size in dirty_pools(42, 100):
+            given = pool.reserve_uncleared(bytearray(image), size)
+            finished = after(image, "reserve_uncleared", size)
+            body, state = body_and_state(finished, given.place)
+            self.assertEqual(state, RESERVED)
+            self.assertTrue(all(any(body[at:at + 8]) for at in range(0, len(body), 8)))
+            for fuse in range(given.stores + 1):
+                cut = after(image, "reserve_uncleared", size, fuse=fuse)
+                self.assertEqual(cut[given.place:given.place + len(body)],
+                                 image[given.place:given.place + len(body)])
+
+    # The same tests, answers and places; the finished images differ in the new body
+    # alone, and nothing else is cleared: no byte of the rest, its header's or its body's.
+    def test_the_forms_differ_in_the_body_alone(self):
+        for image, size in dirty_pools(43, 150):
+            cleared, kept = bytearray(image), bytearray(image)
+            one, other = pool.reserve(cleared, size), pool.reserve_uncleared(kept, size)
+            body, _ = body_and_state(kept, other.place)
+            self.assertEqual(one[:3], other[:3])
+            self.assertEqual(one.stores, other.stores + len(body) // 8)
+            self.assertEqual(one.flush_from, other.flush_from)
+            self.assertEqual(one.flush_to, max(other.flush_to, other.place + len(body)))
+            kept[other.place:other.place + len(body)] = bytes(len(body))
+            self.assertEqual(cleared, kept)
+
+    # "upward, after the sizes are right and before the state becomes RESERVED": a cut
+    # before the first zero leaves what the second form leaves one store before its end,
+    # and each further store clears one word more.
+    def test_cuts_among_the_zeros(self):
+        for image, size in dirty_pools(44, 60):
+            place = pool.reserve(bytearray(image), size).place
+            first = stores_of(image, "reserve_uncleared", (size,)) - 1
+            expected = after(image, "reserve_uncleared", size, fuse=first)
+            zeros = stores_of(image, "reserve", (size,)) - first - 1
+            for made in range(zeros + 1):
+                expected[place:place + 8 * made] = bytes(8 * made)
+                self.assertEqual(after(image, "reserve", size, fuse=first + made), expected)
+
+    # "After a cut and recovery it still reads as not asked."  The pool is sound wherever
+    # it is cut.
+    def test_reads_as_not_asked(self):
+        for image, size in dirty_pools(45, 40):
+            undone = pool.reading(recovered(image))
+            for name in FORMS:
+                for fuse in range(stores_of(image, name, (size,))):
+                    cut = after(image, name, size, fuse=fuse)
+                    self.assertEqual(pool.check(cut)[0].answer, 0)
+                    self.assertEqual(pool.reading(recovered(cut)), undone)
+
+    # Cut among its zeros, recovered and asked again, it is granted as at first.
+    def test_asked_again(self):
+        for image, size in dirty_pools(46, 30):
+            for fuse in telling_fuses(image, "reserve", (size,))[:-1]:
+                again = recovered(after(image, "reserve", size, fuse=fuse))
+                expected = recovered(image)
+                self.assertEqual(pool.reserve(again, size)[:4], pool.reserve(expected, size)[:4])
+                self.assertEqual(pool.reading(again), pool.reading(expected))
+
+    # The same tests: each refusal of the one is the other's, for every image and size.
+    def test_refusals(self):
+        images = (bytearray(0), bytearray(16512), filled(16512, 165), MIXED[:-8], *cases.FAULTY,
+                  with_words(MIXED, {12312: 1}), pool_of(clump(128, ACTIVATING), clump(128, FREE)),
+                  pool_of(clump(128, FREE), clump(128, FREE)), pool_of(clump(128, ACTIVE)), MIXED)
+        answers = set()
+        for image in images:
+            for size in (0, 5, 64, 449, 2**32, 2**63, LARGEST - 63, LARGEST):
+                one, other = (pool.ask(bytearray(image), name, (size,)) for name in FORMS)
+                self.assertEqual(one[:3], other[:3])
+                answers.add((one.answer, one.fault))
+        self.assertEqual(answers, {(0, 0), (1, 0), (2, 1), (2, 2), (2, 3), (2, 4), (2, 5),
+                                   (3, 0), (4, 0), (5, 0)})
+
+    # "A technician read an old valve position out of a fresh record."  The script's
+    # valve, 3, is at 16480 and its position, 77, at 16488.
+    def test_old_valve_position(self):
+        story = program.Program()
+        seen = []
+        for line in program.lines_of(SCRIPTS["old-valve-position"]):
+            story.answer_line(line)
+            if b"reserve" in line:
+                seen.append((line, pool.word(story.image, 16480), pool.word(story.image, 16488)))
+        self.assertEqual(seen, [(b"reserve 64", 0, 0), (b"reserve_uncleared 64", 3, 77),
+                                (b"reserve 64", 0, 0)])
+
+    # The script's old words are at 16448, 16472 and 16504: the cut leaves the last of
+    # them, since 4 of 8 words were cleared; the reserve after the recovery leaves none.
+    def test_cut_in_its_zeros(self):
+        story = program.Program()
+        seen = []
+        for line in program.lines_of(SCRIPTS["reserve-cut-in-its-zeros"]):
+            printed = story.answer_line(line)
+            if line == b"reserve 64":
+                words = [pool.word(story.image, at) for at in (16448, 16472, 16504)]
+                seen.append((printed, words))
+        self.assertEqual(seen, [(b"0 16448 15\n", [0, 0, 0]), (b"11 0 10\n", [0, 0, 3]),
+                                (b"3 0 0\n", [0, 0, 3]), (b"0 16448 15\n", [0, 0, 0])])
 
 
 # What 01 says of a pool in which no stored target has bit 0 set and which 01 calls
@@ -943,8 +1186,8 @@ class OverManyPools(unittest.TestCase):
     def accepted(self, seed, wanted):
         dice = Dice(seed)
         while wanted:
-            name = dice.pick(("reserve", "onactive", "onfree", "withdraw", "activate", "free",
-                              "recover"))
+            name = dice.pick(("reserve", "reserve_uncleared", "onactive", "onfree",
+                              "withdraw", "activate", "free", "recover"))
             some_pool = dice.pick((cases.sound_pool, cases.marked_pool))
             image = some_pool(dice, settled=name != "recover")
             bodies = [pool.body_of(one) for one in pool.walk(image)]
@@ -971,8 +1214,10 @@ class OverManyPools(unittest.TestCase):
                 expected = finished if turned else undone
                 self.assertEqual(pool.reading(recovered(cut)), expected)
                 tried.add((name, fuse))
-        # Each kind of request, each with its last cut.
-        for last in (("reserve", 6), ("onactive", 1), ("onfree", 1), ("withdraw", 0),
+        # Each kind of request, each with its last cut; reserve's of a split for one unit
+        # and for two.
+        for last in (("reserve", 6 + 8), ("reserve", 6 + 16), ("reserve_uncleared", 6),
+                     ("onactive", 1), ("onfree", 1), ("withdraw", 0),
                      ("activate", 7), ("free", 6), ("recover", 7)):
             self.assertIn(last, tried)
 
@@ -1041,10 +1286,14 @@ class TheProgram(unittest.TestCase):
     def assert_output(self, data, expected):
         self.assertEqual(program.run(data).split(b"\n"), expected.encode().split(b"\n"))
 
-    # "Whole case, input `reserve 1000`, `activate 16448`, `walk`"
+    # "Whole case, input `reserve 1000`, `activate 16448`, `walk`".  W5: "the whole
+    # program case prints 135 where it printed 7"; "A second form of the request keeps
+    # the old rule".
     def test_whole_case(self):
-        self.assert_output(b"reserve 1000\nactivate 16448\nwalk\n",
-                           "0 16448 7\n0 16448 2\n16384 1088 3\n17472 15296 0\n")
+        for name, stores in ((b"reserve", 135), (b"reserve_uncleared", 7)):
+            self.assert_output(
+                name + b" 1000\nactivate 16448\nwalk\n",
+                "0 16448 %d\n0 16448 2\n16384 1088 3\n17472 15296 0\n" % stores)
 
     def test_nothing(self):
         self.assert_output(b"", "")
@@ -1052,6 +1301,8 @@ class TheProgram(unittest.TestCase):
 
     def test_fuse_holds_for_one_request(self):
         self.assert_output(b"fuse 6\nreserve 1\nrecover\nreserve 1\n",
+                           "11 0 6\n0 0 1\n0 16448 15\n")
+        self.assert_output(b"fuse 6\nreserve_uncleared 1\nrecover\nreserve_uncleared 1\n",
                            "11 0 6\n0 0 1\n0 16448 7\n")
 
     def test_walk_and_bad_lines_use_up_no_fuse(self):
@@ -1059,7 +1310,7 @@ class TheProgram(unittest.TestCase):
                            "16384 16384 0\n?\n?\n11 0 0\n")
 
     def test_refusal_uses_up_the_fuse(self):
-        self.assert_output(b"fuse 0\nreserve 0\nreserve 1\n", "4 0 0\n0 16448 7\n")
+        self.assert_output(b"fuse 0\nreserve 0\nreserve 1\n", "4 0 0\n0 16448 15\n")
 
     def test_later_fuse_holds(self):
         self.assert_output(b"fuse 9\nfuse 2\nreserve 1\n", "11 0 2\n")
@@ -1075,25 +1326,28 @@ class TheProgram(unittest.TestCase):
 
     def test_names(self):
         for line in (b"create", b"check", b"Reserve 1", b"WALK", b"walk 1", b"recover 1",
-                     b"reserve 1 1", b"onactive 1 1", b"free"):
+                     b"reserve 1 1", b"onactive 1 1", b"free", b"reserve_uncleared",
+                     b"reserve_uncleared 1 1", b"reserve_ 1", b"reserve uncleared 1"):
             self.assert_output(line + b"\n", "?\n")
 
     def test_numbers(self):
-        for number in (b"+1", b"-1", b"0x1", b"1.0", b"18446744073709551616", b"1e1"):
-            self.assert_output(b"reserve " + number + b"\n", "?\n")
-        self.assert_output(b"reserve 18446744073709551615\n", "5 0 0\n")
-        self.assert_output(b"reserve 00000000000000000000000000001\n", "0 16448 7\n")
+        for name, stores in ((b"reserve ", 15), (b"reserve_uncleared ", 7)):
+            for number in (b"+1", b"-1", b"0x1", b"1.0", b"18446744073709551616", b"1e1"):
+                self.assert_output(name + number + b"\n", "?\n")
+            self.assert_output(name + b"18446744073709551615\n", "5 0 0\n")
+            self.assert_output(name + b"00000000000000000000000000001\n",
+                               "0 16448 %d\n" % stores)
 
     def test_line_length(self):
         line = b"reserve " + b"0" * 191 + b"1"
         self.assertEqual(len(line), 200)
-        self.assert_output(line + b"\n", "0 16448 7\n")
-        self.assert_output(line, "0 16448 7\n")
+        self.assert_output(line + b"\n", "0 16448 15\n")
+        self.assert_output(line, "0 16448 15\n")
         self.assert_output(b"reserve 0" + line[8:] + b"\n", "?\n")
         self.assert_output(b"x" * 100000 + b"\nwalk", "?\n16384 16384 0\n")
 
     def test_last_line_without_newline(self):
-        self.assert_output(b"reserve 1\nwalk", "0 16448 7\n16384 128 1\n16512 16256 0\n")
+        self.assert_output(b"reserve 1\nwalk", "0 16448 15\n16384 128 1\n16512 16256 0\n")
 
     # The story's words in the end, followed by hand: root, count and follower
     # are all three set by the recovery, and the count again by the freeing.
@@ -1101,8 +1355,9 @@ class TheProgram(unittest.TestCase):
         story = program.Program()
         lines = program.lines_of(SCRIPTS["kiln"])
         recovery = lines.index(b"recover")
-        for line in lines[:recovery]:
-            story.answer_line(line)
+        printed = [story.answer_line(line) for line in lines[:recovery]]
+        # Bodies of 320 bytes and, for 200, of 256: 7 + 40 stores and 7 + 32.
+        self.assertEqual([printed[0], printed[5]], [b"0 16448 47\n", b"0 16832 39\n"])
         self.assertEqual([pool.word(story.image, at) for at in (4096, 4104, 16448)],
                          [16832, 2, 0])
         self.assertEqual(story.answer_line(lines[recovery]), b"0 0 7\n")
@@ -1118,9 +1373,10 @@ class TheProgram(unittest.TestCase):
 # What the generator writes
 # ---------------------------------------------------------------------------
 
-# The answers that document 01, with W4, makes possible for each request.
+# The answers that document 01, with W4 and W5, makes possible for each request.
 POSSIBLE = {
     "create": {0, 1, 11}, "reserve": {0, 1, 2, 3, 4, 5, 11},
+    "reserve_uncleared": {0, 1, 2, 3, 4, 5, 11},
     "onactive": {0, 1, 2, 3, 6, 7, 8, 10, 11}, "onfree": {0, 1, 2, 3, 6, 7, 8, 10, 11},
     "withdraw": {0, 1, 2, 3, 6, 7, 9, 11}, "activate": {0, 1, 2, 3, 6, 7, 10, 11},
     "free": {0, 1, 2, 3, 6, 7, 10, 11}, "check": {0, 1, 2}, "recover": {0, 1, 2, 11}}
@@ -1133,11 +1389,12 @@ class TheGenerator(unittest.TestCase):
         cls.cases = cases.all_cases()
 
     def test_number_of_cases(self):
-        self.assertTrue(6000 <= len(self.cases) <= 7000, len(self.cases))
+        self.assertTrue(7000 <= len(self.cases) <= 8000, len(self.cases))
         self.assertGreaterEqual(len(SCRIPTS), 24)
 
     def test_every_answer_of_every_request(self):
         counts = generate.histogram(self.cases)
+        self.assertEqual(set(POSSIBLE), set(cases.REQUEST_NAMES))
         for name, answers in POSSIBLE.items():
             self.assertEqual({answer for asked, answer in counts if asked == name}, answers)
 
@@ -1233,7 +1490,7 @@ class TheGenerator(unittest.TestCase):
             if given.stores and (not changed or (given.flush_from, given.flush_to)
                                  != (changed[0], changed[-1] + 8)):
                 told.add((one.image, one.name, one.numbers))
-        self.assertEqual(len(asked), 9)
+        self.assertEqual(len(asked), 11)
         self.assertEqual(told, asked)
 
     def test_last_word_assigned(self):
@@ -1254,6 +1511,64 @@ class TheGenerator(unittest.TestCase):
                 length = stores_of(image, name, (16576,))
                 self.assertEqual(tried - {LARGEST}, set(range(length + 1)))
             self.assertEqual(len({tuple(stored_words(image, 16512)) for image in fuses}), 27)
+
+    # W5, of every case: a body that was reserved in the first form has no byte but 0, and
+    # one that is being cleared isn't RESERVED; the second form changes no byte of it.
+    def test_every_reserve_clears_the_body(self):
+        found = set()
+        for one in self.cases:
+            if one.name not in FORMS:
+                continue
+            image, finished = bytearray(one.image), bytearray(one.image)
+            given = pool.ask(image, one.name, one.numbers, one.fuse)
+            if given.answer not in (0, 11):
+                continue
+            place = pool.ask(finished, one.name, one.numbers).place
+            end = place + len(body_and_state(finished, place)[0])
+            was, body = one.image[place:end], image[place:end]
+            self.assertEqual(pool.word(image, place - 56),
+                             RESERVED if given.answer == 0 else FREE)
+            if one.name == "reserve_uncleared":
+                self.assertEqual(body, was)
+            elif given.answer == 0:
+                self.assertFalse(any(body))
+            found.add((one.name, given.answer, any(was), any(body)))
+        for name, left in (("reserve", False), ("reserve_uncleared", True)):
+            self.assertIn((name, 0, True, left), found)
+        self.assertLessEqual({("reserve", 11, True, True), ("reserve", 11, True, False)}, found)
+
+    # The families of dirty bodies are what they say: every fuse, and each zero changes
+    # its word, so that two neighbouring stores that change places are seen.
+    def test_dirty_bodies(self):
+        fuses = {}
+        for one in cases.dirty_bodies_reserved():
+            fuses.setdefault((one.image, one.name, one.numbers), set()).add(one.fuse)
+        bodies = set()
+        for (image, name, numbers), tried in fuses.items():
+            length = stores_of(image, name, numbers)
+            self.assertEqual(tried, {*range(length + 1), LARGEST})
+            if name == "reserve":
+                zeros = length - stores_of(image, "reserve_uncleared", numbers)
+                bodies.add((length - zeros, zeros))
+                for fuse in range(length - 1 - zeros, length - 1):
+                    changed = changed_words(after(image, name, *numbers, fuse=fuse),
+                                            after(image, name, *numbers, fuse=fuse + 1))
+                    self.assertEqual(len(changed), 1)
+        # Split and not, of one unit and of two.
+        self.assertEqual(bodies, {(7, 8), (7, 16), (4, 8), (4, 16)})
+
+    # Of many zeros the fuses that tell: all of the others', and among the zeros those
+    # where they begin, the middle, and those where they end.
+    def test_telling_fuses(self):
+        image = fresh(32768)
+        for name, size, expected in (
+                ("reserve_uncleared", 1000, list(range(8))),
+                ("reserve", 64, list(range(16))), ("reserve", 128, list(range(24))),
+                ("reserve", 1000, [0, 1, 2, 3, 4, 5, 6, 7, 8, 70, 132, 133, 134, 135]),
+                ("reserve", 16320, [0, 1, 2, 3, 4, 5, 1023, 2041, 2042, 2043, 2044]),
+                ("reserve", 0, [0])):
+            self.assertEqual(telling_fuses(image, name, (size,)), expected)
+        self.assertEqual(telling_fuses(MIXED, "free", (MIXED_ACTIVE,)), list(range(6)))
 
     # The line of a cut of 01's case H, worked by hand but for the sum.
     def test_outcome_line(self):

@@ -8,7 +8,7 @@ use lib.Dec.{eqb, ltb}
 use lib.ListN.{getD}
 use borrow.Author.Tests.{ltb-false}
 use Rattle.rules.specs.declared.Request.{Request}
-use Rattle.rules.specs.declared.Request.the-variants.{Create, Reserve, Onactive, Onfree, Withdraw, Activate, Free, Check, Recover}
+use Rattle.rules.specs.declared.Request.the-variants.{Create, Reserve, ReserveUncleared, Onactive, Onfree, Withdraw, Activate, Free, Check, Recover}
 use Rattle.case.specs.declared.Case.{Case}
 use Rattle.case.specs.declared.Case.the-variants.{Asked, Malformed}
 
@@ -22,7 +22,10 @@ mostFill = 255
 abbrev pub mostWords : ℕ
 mostWords = 120
 
--- the request of a number from 0 to 8
+-- the request of a number, up to the largest
+abbrev pub mostRequest : ℕ
+mostRequest = 9
+
 unfoldable pub requestOf : ℕ → ℕ → ℕ → ℕ → Request
 requestOf q a b c =
     cond (eqb q 0) Create
@@ -32,7 +35,8 @@ requestOf q a b c =
     (cond (eqb q 4) (Withdraw a)
     (cond (eqb q 5) (Activate a)
     (cond (eqb q 6) (Free a)
-    (cond (eqb q 7) Check Recover)))))))
+    (cond (eqb q 7) Check
+    (cond (eqb q 8) Recover (ReserveUncleared a)))))))))
 
 -- the number at an index
 abbrev pub at : List ℕ → ℕ → ℕ
@@ -52,7 +56,7 @@ caseOf ns count =
     (cond (ltb mostFill (at ns 1)) Malformed
     (cond (ltb mostWords (at ns 2)) Malformed
     (cond (eqb count (requestAt ns + 5))
-    (cond (ltb 8 (at ns (requestAt ns))) Malformed (asked ns (requestAt ns)))
+    (cond (ltb mostRequest (at ns (requestAt ns))) Malformed (asked ns (requestAt ns)))
     Malformed)))
 
 -- a case is within its bounds
@@ -60,7 +64,7 @@ pub asked-within :
     (ns : List ℕ) (count n b k : ℕ) (q : Request) (fuse : ℕ)
     → caseOf ns count ≡ Asked n b k q fuse
     → (n ≤ mostLength) × (k ≤ mostWords)
-asked-within ns count n b k q fuse = go (ltb mostLength (at ns 0)) refl (ltb mostFill (at ns 1)) (ltb mostWords (at ns 2)) refl (eqb count (requestAt ns + 5)) (ltb 8 (at ns (requestAt ns)))
+asked-within ns count n b k q fuse = go (ltb mostLength (at ns 0)) refl (ltb mostFill (at ns 1)) (ltb mostWords (at ns 2)) refl (eqb count (requestAt ns + 5)) (ltb mostRequest (at ns (requestAt ns)))
   where
     go :
         (t : Bool) → ltb mostLength (at ns 0) ≡ t

@@ -18,7 +18,7 @@ pub enum Case {
     Malformed,
 }
 
-// The request of that number; 8 and what is above it are recover.
+// The request of that number; 9 and what is above it are reserve_uncleared.
 fn request_of(q: u64, a: u64, b: u64, c: u64) -> Request
     ensures { λ r. ⌜ r ≡ requestOf q a b c ⌝ }
 {
@@ -39,7 +39,8 @@ fn request_of(q: u64, a: u64, b: u64, c: u64) -> Request
         5 => Request::Activate { offset: a },
         6 => Request::Free { offset: a },
         7 => Request::Check,
-        _ => Request::Recover,
+        8 => Request::Recover,
+        _ => Request::ReserveUncleared { size: a },
     }
 }
 
@@ -65,7 +66,7 @@ pub fn case_of(numbers: &[u64; 256], count: usize) -> Case
         return Case::Malformed;
     }
     let q = numbers[at];
-    if 8 < q {
+    if 9 < q {
         return Case::Malformed;
     }
     Case::Asked {

@@ -9,30 +9,31 @@ use native.Mathlib.Omega.{arith}
 use lib.ListN.{length, length-append, length-map}
 use borrow.Author.Tests.{le-leb, lt-leb}
 use Rattle.rules.specs.declared.Request.{Request}
-use Rattle.rules.specs.declared.Request.the-variants.{Create, Reserve, Onactive, Onfree, Withdraw, Activate, Free, Check, Recover}
+use Rattle.rules.specs.declared.Request.the-variants.{Create, Reserve, ReserveUncleared, Onactive, Onfree, Withdraw, Activate, Free, Check, Recover}
 use Rattle.rules.specs.Lists.{those}
 use Rattle.rules.specs.Words.{Image, Mem, Store, store, mem}
 use Rattle.rules.specs.Pages.{clumpsAt}
 use Rattle.rules.specs.Clumps.{Head, hasState, slots, Choice, used, marked, unmarked, slotsBy, entry, entriesBy, FREE, ACTIVE, FREEING}
 use Rattle.rules.specs.Answers.{flushOf, answerAt}
-use Rattle.rules.specs.Stores.{setState, leastRest, reserveStores, finishActivating, finishFreeing, activateStores, hasMarked, dropStores, emptying, joinBefore, joinBoth, freeAfter, freeBefore, freeStores, needOf, fits}
+use Rattle.rules.specs.Stores.{setState, leastRest, clearedWords, reserveStores, splitCount, wholeCount, finishActivating, finishFreeing, activateStores, hasMarked, dropStores, emptying, joinBefore, joinBoth, freeAfter, freeBefore, freeStores, needOf, fits}
 use Rattle.rules.specs.Reading.{clumpsOf}
-use Rattle.rules.specs.Demands.{Counted, Counts}
+use Rattle.rules.specs.Demands.{CountedReserve, Counted, Counts}
 use Rattle.laws.specs.Searches.{differ, those-few}
 use Rattle.laws.specs.Choices.{marked-apart}
 use Rattle.laws.specs.Tilings.{found-again}
 use Rattle.laws.specs.Pools.{pool-tiles}
+use Rattle.laws.specs.Clearing.{length-zeros}
 use Rattle.laws.specs.Founding.{create-length}
-use Rattle.laws.specs.Granted.{Grants, done-granted}
+use Rattle.laws.specs.Granted.{Reserves, Grants, done-granted}
 
 -- a clump that is split, and one that is used whole
-split-length : (need : ℕ) (h : Head) → need + leastRest ≤ h .nbytes → length (reserveStores need h) ≡ 7
+split-length : (clears : Bool) (need : ℕ) (h : Head) → need + leastRest ≤ h .nbytes → length (reserveStores clears need h) ≡ splitCount + clearedWords clears need
 unfolding reserveStores
-split-length need h l = rw (le-leb leastRest (h .nbytes - need) (omega arith))
+split-length clears need h l = rw (le-leb leastRest (h .nbytes - need) (omega arith)) (simp (length-append, length-zeros) (omega arith))
 
-whole-length : (need : ℕ) (h : Head) → h .nbytes < need + leastRest → length (reserveStores need h) ≡ 4
+whole-length : (clears : Bool) (need : ℕ) (h : Head) → h .nbytes < need + leastRest → length (reserveStores clears need h) ≡ wholeCount + clearedWords clears (h .nbytes)
 unfolding reserveStores
-whole-length need h l = rw (lt-leb leastRest (h .nbytes - need) (omega arith))
+whole-length clears need h l = rw (lt-leb leastRest (h .nbytes - need) (omega arith)) (simp (length-append, length-zeros) (omega arith))
 
 -- a list carried out: its entries are three at most
 entries-few : (c : Choice) (m : Mem) (a : ℕ) → length (entriesBy c m a) ≤ 3
@@ -101,14 +102,19 @@ unfolding freeStores
 free-few m hs h =
     omega (arith, length-append (dropStores m h) (joinBoth (freeAfter hs h) (freeBefore hs h) h), drop-few m h, both-few (freeAfter hs h) (freeBefore hs h) h)
 
--- the answer of a grant
-counted : (img : Image) (q : Request) (p : ℕ) (st : List Store) → Grants (length img) (mem img) q p st → Counted img q (answerAt false p (length st) (flushOf st))
-counted img Create p st e = ap length e ∙ create-length (length img)
-counted img (Reserve size) p st g = (
+-- the answer of a grant: of reserve, in either form, and of each request
+reserve-counted : (clears : Bool) (img : Image) (size p : ℕ) (st : List Store) → Reserves clears (length img) (mem img) size p st → CountedReserve clears img size (answerAt false p (length st) (flushOf st))
+reserve-counted clears img size p st g = (
   g .clump,
   rw (g .place) (found-again clumpsAt (length img) (clumpsOf img) (pool-tiles (length img) (mem img) (g .sound)) (fits (needOf size)) (g .clump) (g .found)),
-  ((λ l. ap length (g .stores) ∙ split-length (needOf size) (g .clump) l), (λ l. ap length (g .stores) ∙ whole-length (needOf size) (g .clump) l)),
+  (λ l. ap length (g .stores) ∙ split-length clears (needOf size) (g .clump) l),
+  (λ l. ap length (g .stores) ∙ whole-length clears (needOf size) (g .clump) l),
 )
+
+counted : (img : Image) (q : Request) (p : ℕ) (st : List Store) → Grants (length img) (mem img) q p st → Counted img q (answerAt false p (length st) (flushOf st))
+counted img Create p st e = ap length e ∙ create-length (length img)
+counted img (Reserve size) p st g = reserve-counted true img size p st g
+counted img (ReserveUncleared size) p st g = reserve-counted false img size p st g
 counted img (Onactive o t v) p st g = ap length (g .1)
 counted img (Onfree o t v) p st g = ap length (g .1)
 counted img (Withdraw o) p st g = ap length (g .2)

@@ -1,8 +1,8 @@
 -- Where the stores of create land: in the static area, in the header page and in the first clump's header, each an aligned word of 64
 -- bits. What holds of every such store holds of each store of create. And how many they are. By the list as the rules spell it. Assumes
 -- nothing.
-use Prim.Native.Nat.{ℕ, zero, suc, _+_, _-_, _*_, _/_, _%_, _<_, _≤_}
-use mathlib.Core.Path.{_≡_, refl, ap}
+use Prim.Native.Nat.{ℕ, _+_, _-_, _*_, _/_, _%_, _<_, _≤_}
+use mathlib.Core.Path.{_≡_, refl}
 use mathlib.Core.Logic.{_⊎_, inl, inr}
 use mathlib.Core.List.{[], _∷_, _++_}
 use native.Mathlib.Omega.{arith}
@@ -14,22 +14,13 @@ use Rattle.rules.specs.Clumps.{headerBytes}
 use Rattle.rules.specs.Stores.{createStores, createCount}
 use Rattle.laws.specs.Searches.{each-append}
 use Rattle.laws.specs.Pools.{RightLength}
+use Rattle.laws.specs.Clearing.{zeros-each, length-zeros}
 
 -- the word at o is one of the static area, or one of the header page or of the first clump's header
 abbrev pub Founds : ℕ → Type 0
 Founds o = ((staticAt ≤ o) × (o + wordBytes ≤ staticEnd)) ⊎ ((headerAt ≤ o) × (o + wordBytes ≤ clumpsAt + headerBytes))
 
-zeros-each : (P : Store → Type 0) (i k : ℕ) → i % wordBytes ≡ 0 → ((o : ℕ) → i ≤ o → o + wordBytes ≤ i + wordBytes * k → o % wordBytes ≡ 0 → P (store o 0)) → Each P (zeros i k)
-unfolding zeros
-zeros-each P i zero e f = tt
-zeros-each P i (suc k) e f = (f i (omega arith) (omega arith) e, zeros-each P (i + wordBytes) k (omega arith) (λ o l u d. f o (omega arith) (omega arith) d))
-
 -- how many they are
-length-zeros : (i k : ℕ) → length (zeros i k) ≡ k
-unfolding zeros
-length-zeros i zero = refl
-length-zeros i (suc k) = ap suc (length-zeros (i + wordBytes) k)
-
 pub create-length : (n : ℕ) → length (createStores n) ≡ createCount
 unfolding createStores
 create-length n = simp (length-append, length-zeros) (omega arith)

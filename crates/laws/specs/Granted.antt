@@ -11,7 +11,7 @@ use lib.ListN.{length, take}
 use lib.Seq.{take-all}
 use borrow.Author.Tests.{ltb-false, eqb-false, not-false}
 use Rattle.rules.specs.declared.Request.{Request}
-use Rattle.rules.specs.declared.Request.the-variants.{Create, Reserve, Onactive, Onfree, Withdraw, Activate, Free, Check, Recover}
+use Rattle.rules.specs.declared.Request.the-variants.{Create, Reserve, ReserveUncleared, Onactive, Onfree, Withdraw, Activate, Free, Check, Recover}
 use Rattle.rules.specs.Lists.{seek}
 use Rattle.rules.specs.Words.{Image, Mem, Store, mem}
 use Rattle.rules.specs.Pages.{isPool, rightLength}
@@ -19,7 +19,7 @@ use Rattle.rules.specs.Clumps.{Head, bodyOf, RESERVED, hasState, isWaiting, slo
 use Rattle.rules.specs.Sound.{Fault, judge, unsettled, isValid, allValid}
 use Rattle.rules.specs.Answers.{done, notPool, notSound, notSettled, sizeZero, wrongState, badTarget, cutShort, Verdict, refused, granted, test, testFault, flushOf, answerAt, answerOf, ifSound, ifSettled}
 use Rattle.rules.specs.Stores.{createStores, needOf, fits, reserveStores, listStores, withdrawStores, activateStores, freeStores, recoverStores}
-use Rattle.rules.specs.Requests.{placed, reserve, finder, found, listed, openSlot, enlist, withdrawn, withdraw, activate, free, verdict, verdictOn, answerOn}
+use Rattle.rules.specs.Requests.{placed, reserve, reserving, finder, found, listed, openSlot, enlist, withdrawn, withdraw, activate, free, verdict, verdictOn, answerOn}
 use Rattle.laws.specs.Pools.{Sound}
 
 -- a refusal has one of the answers 1 to 10, and a fault with answer 2 alone; of a grant's place and stores G holds
@@ -54,15 +54,15 @@ module _ (G : ℕ → List Store → Type 0) where
   fair-asked : (n : ℕ) (m : Mem) (o : ℕ) (go : Head → Verdict) → ((h : Head) → finder (walk n m) o ≡ some h → Fair (go h)) → Fair (ifSettled n m (found (finder (walk n m) o) go))
   fair-asked n m o go k = fair-settled n m _ (λ s u. fair-found (finder (walk n m) o) go k)
 
--- what reserve grants, with the place p and the stores st: those of the first clump that fits
-pub record Reserves (n : ℕ) (m : Mem) (size p : ℕ) (st : List Store) : Type 0 where
+-- what reserve grants, in either form, with the place p and the stores st: those of the first clump that fits
+pub record Reserves (clears : Bool) (n : ℕ) (m : Mem) (size p : ℕ) (st : List Store) : Type 0 where
   pub sound : Sound n m
   pub calm : unsettled (walk n m) ≡ false
   pub asked : size ≡ 0 → ⊥
   pub clump : Head
   pub found : seek (fits (needOf size)) (walk n m) ≡ some clump
   pub place : p ≡ bodyOf clump
-  pub stores : st ≡ reserveStores (needOf size) clump
+  pub stores : st ≡ reserveStores clears (needOf size) clump
 
 -- what onactive and onfree grant, and withdraw, whichever entry it is
 abbrev pub Enlists : ℕ → ℕ → ℕ → List Store → Type 0
@@ -74,7 +74,8 @@ Withdraws p st = (s : ℕ) × (sl : List ℕ) × (st ≡ withdrawStores s sl)
 -- what each request grants
 abbrev pub Grants : ℕ → Mem → Request → ℕ → List Store → Type 0
 Grants n m Create p st = st ≡ createStores n
-Grants n m (Reserve size) p st = Reserves n m size p st
+Grants n m (Reserve size) p st = Reserves true n m size p st
+Grants n m (ReserveUncleared size) p st = Reserves false n m size p st
 Grants n m (Onactive o t v) p st = Enlists t v p st
 Grants n m (Onfree o t v) p st = Enlists (withMark t) v p st
 Grants n m (Withdraw o) p st = Withdraws p st
@@ -83,9 +84,16 @@ Grants n m (Free o) p st = (h : Head) × (finder (walk n m) o ≡ some h) × (st
 Grants n m Check p st = st ≡ []
 Grants n m Recover p st = st ≡ recoverStores m (walk n m)
 
-fair-placed : (n : ℕ) (m : Mem) (size : ℕ) → Sound n m → unsettled (walk n m) ≡ false → (size ≡ 0 → ⊥) → (o : Option Head) → seek (fits (needOf size)) (walk n m) ≡ o → Fair (Reserves n m size) (placed (needOf size) o)
-fair-placed n m size s u z none e = (omega arith, omega arith, λ i. refl)
-fair-placed n m size s u z (some h) e = record { sound = s; calm = u; asked = z; clump = h; found = e; place = refl; stores = refl }
+fair-reserve : (clears : Bool) (n : ℕ) (m : Mem) (size : ℕ) → Fair (Reserves clears n m size) (ifSettled n m (reserve clears (walk n m) size))
+unfolding reserve
+fair-reserve clears n m size =
+    fair-settled (Reserves clears n m size) n m _
+    (λ s u. fair-test (Reserves clears n m size) (eqb size 0) sizeZero _ (omega arith) (omega arith)
+    (λ z. go s u (eqb-false size 0 z) (seek (fits (needOf size)) (walk n m)) refl))
+  where
+    go : Sound n m → unsettled (walk n m) ≡ false → (size ≡ 0 → ⊥) → (o : Option Head) → seek (fits (needOf size)) (walk n m) ≡ o → Fair (Reserves clears n m size) (placed clears (needOf size) o)
+    go s u z none e = (omega arith, omega arith, λ i. refl)
+    go s u z (some h) e = record { sound = s; calm = u; asked = z; clump = h; found = e; place = refl; stores = refl }
 
 fair-listed : (b : Bool) (o : Option ℕ) (p t v : ℕ) → Fair (Enlists t v) (listed b o p t v)
 fair-listed b none p t v = (omega arith, omega arith, λ e. refl)
@@ -102,12 +110,10 @@ fair-withdrawn [] p = (omega arith, omega arith, λ e. refl)
 fair-withdrawn (s ∷ sl) p = (s, sl, refl)
 
 pub fair : (n : ℕ) (m : Mem) (q : Request) → Fair (Grants n m q) (verdict n m q)
-unfolding verdict reserve withdraw activate free
+unfolding verdict withdraw activate free
 fair n m Create = fair-test (Grants n m Create) (not (rightLength n)) notPool _ (omega arith) (omega arith) (λ z. refl)
-fair n m (Reserve size) =
-    fair-settled (Reserves n m size) n m _
-    (λ s u. fair-test (Reserves n m size) (eqb size 0) sizeZero _ (omega arith) (omega arith)
-    (λ z. fair-placed n m size s u (eqb-false size 0 z) (seek (fits (needOf size)) (walk n m)) refl))
+fair n m (Reserve size) = fair-reserve true n m size
+fair n m (ReserveUncleared size) = fair-reserve false n m size
 fair n m (Onactive o t v) = fair-asked (Enlists t v) n m o _ (λ h e. fair-enlist m (walk n m) (hasState RESERVED) o t t v h)
 fair n m (Onfree o t v) = fair-asked (Enlists (withMark t) v) n m o _ (λ h e. fair-enlist m (walk n m) isWaiting o t (withMark t) v h)
 fair n m (Withdraw o) =
@@ -143,3 +149,8 @@ fair-done G fuse (granted p st) k e = record { place = p; stores = st; verdict-i
 
 pub done-granted : (img : Image) (q : Request) (fuse : ℕ) → answerOn img q fuse .answer ≡ done → Granted (Grants (length img) (mem img) q) fuse (verdictOn img q)
 done-granted img q fuse e = fair-done (Grants (length img) (mem img) q) fuse (verdictOn img q) (fair (length img) (mem img) q) e
+
+-- and of reserve, in either form
+pub done-reserves : (img : Image) (clears : Bool) (size fuse : ℕ) → answerOn img (reserving clears size) fuse .answer ≡ done → Granted (Reserves clears (length img) (mem img) size) fuse (verdictOn img (reserving clears size))
+done-reserves img true size fuse e = done-granted img (Reserve size) fuse e
+done-reserves img false size fuse e = done-granted img (ReserveUncleared size) fuse e

@@ -10,7 +10,7 @@ use native.Mathlib.Omega.{arith}
 use lib.Dec.{eqb}
 use borrow.Author.Tests.{eqb-true, leb-true, not-false}
 use Rattle.rules.specs.declared.Request.{Request}
-use Rattle.rules.specs.declared.Request.the-variants.{Create, Reserve, Onactive, Onfree, Withdraw, Activate, Free, Check, Recover}
+use Rattle.rules.specs.declared.Request.the-variants.{Create, Reserve, ReserveUncleared, Onactive, Onfree, Withdraw, Activate, Free, Check, Recover}
 use Rattle.rules.specs.Lists.{seek, those, Each}
 use Rattle.rules.specs.Words.{Mem, Store, store, wordValues}
 use Rattle.rules.specs.Pages.{clumpsAt, rightLength}
@@ -25,7 +25,7 @@ use Rattle.laws.specs.Searches.{those-each, and-both, seek-each, seek-sp
 use Rattle.laws.specs.Walks.{no-faults}
 use Rattle.laws.specs.Neighbours.{if-free}
 use Rattle.laws.specs.Mending.{targets-valid, tiles-released}
-use Rattle.laws.specs.Needs.{need-even}
+use Rattle.laws.specs.Needs.{need-least, need-even}
 use Rattle.laws.specs.Behind.{behind-test, behind-sound, behind-settled, behind-found}
 use Rattle.laws.specs.Pools.{Sound, pool-length, pool-tiles}
 use Rattle.laws.specs.Lying.{Lies, all-lie, valid-even}
@@ -46,11 +46,17 @@ module _ (P : Store → Type 0) (N : Type 0) (n : ℕ) (m : Mem) (heads : Sound 
   Carries c h = allValid c m (walk n m) h ≡ true → Each P (entriesBy c m (h .at))
 
   -- each request, from the clump that was found on
-  placed-lands : Sound n m → (size : ℕ) (o : Option Head) → seek (fits (needOf size)) (walk n m) ≡ o → Each P (storesOf (placed (needOf size) o))
-  placed-lands s size none e = tt
-  placed-lands s size (some h) e =
+  placed-lands : (clears : Bool) → Sound n m → (size : ℕ) (o : Option Head) → seek (fits (needOf size)) (walk n m) ≡ o → Each P (storesOf (placed clears (needOf size) o))
+  placed-lands clears s size none e = tt
+  placed-lands clears s size (some h) e =
       let x = and-both (isFree h) _ (seek-split _ (walk n m) h e .passes) in
-      reserve-lands P N n (needOf size) h (found-in s _ h e) (x .0) (need-even size) (leb-true (needOf size) (h .nbytes) (x .1))
+      reserve-lands P N n clears (needOf size) h (found-in s _ h e) (x .0) (need-even size) (need-least size) (leb-true (needOf size) (h .nbytes) (x .1))
+
+  placing-lands : (clears : Bool) (size : ℕ) → Each P (storesOf (ifSettled n m (reserve clears (walk n m) size)))
+  unfolding reserve
+  placing-lands clears size =
+      behind-settled (Each P) tt n m _
+      (λ s u. behind-test (Each P) tt (eqb size 0) sizeZero _ (λ z. placed-lands clears s size (seek (fits (needOf size)) (walk n m)) refl))
 
   enlist-lands : (a : Head → Bool) (p t u v : ℕ) (h : Head) → In P N n h → (isValid (walk n m) t ≡ true → N → u < wordValues) → (N → v < wordValues) → Each P (storesOf (enlist m (walk n m) a p t u v h))
   unfolding enlist
@@ -141,9 +147,10 @@ module _ (P : Store → Type 0) (N : Type 0) (n : ℕ) (m : Mem) (heads : Sound 
       → (isCreate q ≡ true → rightLength n ≡ true → Each P (createStores n))
       → ((c : Choice) (h : Head) → Sound n m → carriedOut m (walk n m) q ≡ entriesBy c m (h .at) → Carries c h)
       → Each P (storesOf (verdict n m q))
-  unfolding verdict reserve
+  unfolding verdict
   lands Create k c f = behind-test (Each P) tt (not (rightLength n)) notPool _ (λ e. c refl (not-false _ e))
-  lands (Reserve size) k c f = behind-settled (Each P) tt n m _ (λ s u. behind-test (Each P) tt (eqb size 0) sizeZero _ (λ z. placed-lands s size (seek (fits (needOf size)) (walk n m)) refl))
+  lands (Reserve size) k c f = placing-lands true size
+  lands (ReserveUncleared size) k c f = placing-lands false size
   lands (Onactive o t v) k c f = asked-lands o _ (λ s h e i. enlist-lands (hasState RESERVED) o t t v h i (λ y z. k z .1) (λ z. k z .2))
   lands (Onfree o t v) k c f = asked-lands o _ (λ s h e i. enlist-lands isWaiting o t (withMark t) v h i (λ y z. mark-word t (valid-even (walk n m) t y) (k z .1)) (λ z. k z .2))
   lands (Withdraw o) k c f = asked-lands o _ (λ s h e i. withdraw-lands o h i)

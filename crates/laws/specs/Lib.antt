@@ -20,6 +20,7 @@ pub mod Needs
 pub mod Behind
 pub mod Lying
 pub mod Spans
+pub mod Clearing
 pub mod Taking
 pub mod Landing
 pub mod Founding

@@ -12,17 +12,16 @@ use lib.ListN.{length, take}
 use lib.Seq.{take-nil}
 use borrow.Author.Tests.{ltb-true, ltb-false, leb-true, leb-false, lt-leb, eq-eqb, ne-eqb, eqb-true}
 use Rattle.rules.specs.declared.Answer.{Answer}
-use Rattle.rules.specs.declared.Request.the-variants.{Reserve}
 use Rattle.rules.specs.Lists.{seek, Each}
-use Rattle.rules.specs.Words.{Image, Store, carry}
-use Rattle.rules.specs.Clumps.{Head, isFree, FREE}
+use Rattle.rules.specs.Words.{Image, Mem, Store, mem, carry}
+use Rattle.rules.specs.Clumps.{Head, isFree, FREE, walk}
 use Rattle.rules.specs.Answers.{done, notSound, noRoom, cutShort, Verdict, refused, granted, storesOf, Flush, flushOf, answerAt, answerOf, ifSound, ifSettled}
 use Rattle.rules.specs.Stores.{needOf, fits, reserveStores}
-use Rattle.rules.specs.Requests.{placed, reserve, verdict, verdictOn}
+use Rattle.rules.specs.Requests.{placed, reserve, reserving, verdict, verdictOn}
 use Rattle.rules.specs.Demands.{Refusals, Fuses, FirstFit, NoRoom, Settled}
 use Rattle.rules.specs.Reading.{clumpsOf}
 use Rattle.laws.specs.Searches.{and-both, seek-split, seek-none, none-seek, some-none, each-map}
-use Rattle.laws.specs.Granted.{Fair, fair, done-granted}
+use Rattle.laws.specs.Granted.{Fair, fair, done-reserves}
 
 -- the sentences, of a verdict
 abbrev Refuses : Image → ℕ → Verdict → Type 0
@@ -78,9 +77,9 @@ passed need h f = go (eqb (h .state) FREE) refl
     go false e = refl
 
 pub first-fit : FirstFit
-first-fit img size fuse d =
+first-fit img clears size fuse d =
     let need = needOf size in
-    let r = done-granted img (Reserve size) fuse d in
+    let r = done-reserves img clears size fuse d in
     let g = r .grants in
     let x = seek-split (fits need) (clumpsOf img) (g .clump) (g .found) in
     let f = fit need (g .clump) (x .passes) in (
@@ -94,10 +93,16 @@ first-fit img size fuse d =
       each-map (λ k. fits need k ≡ false) (λ k. k .state ≡ FREE → k .nbytes < need) (x .lower) (unfit need) (x .before),
     )
 
--- the verdict on reserve where requests are served
-reserve-served : (img : Image) (size : ℕ) → Settled img → 0 < size → verdictOn img (Reserve size) ≡ placed (needOf size) (seek (fits (needOf size)) (clumpsOf img))
-unfolding verdict ifSettled ifSound reserve
-reserve-served img size s l = rw (s .pool, s .sound, s .calm, ne-eqb size 0 (λ e. absurd (omega arith)))
+-- the verdict on reserve, in either form; and where requests are served
+pub reserving-is : (n : ℕ) (m : Mem) (clears : Bool) (size : ℕ) → verdict n m (reserving clears size) ≡ ifSettled n m (reserve clears (walk n m) size)
+unfolding verdict
+reserving-is n m true size = refl
+reserving-is n m false size = refl
+
+reserve-served : (img : Image) (clears : Bool) (size : ℕ) → Settled img → 0 < size → verdictOn img (reserving clears size) ≡ placed clears (needOf size) (seek (fits (needOf size)) (clumpsOf img))
+unfolding ifSettled ifSound reserve
+reserve-served img clears size s l =
+    rw (reserving-is (length img) (mem img) clears size, s .pool, s .sound, s .calm, ne-eqb size 0 (λ e. absurd (omega arith)))
 
 -- a grant is not "no room"
 granted-room : (b : Bool) (p k : ℕ) (r : Flush) → answerAt b p k r .answer ≡ noRoom → ⊥
@@ -106,11 +111,11 @@ granted-room false p k r z = omega arith
 
 pub no-room : NoRoom
 unfolding answerOf
-no-room img size fuse s l = rw (reserve-served img size s l) (go (seek (fits (needOf size)) (clumpsOf img)) refl)
+no-room img clears size fuse s l = rw (reserve-served img clears size s l) (go (seek (fits (needOf size)) (clumpsOf img)) refl)
   where
-    go : (o : Option Head) → seek (fits (needOf size)) (clumpsOf img) ≡ o → (answerOf fuse (placed (needOf size) o) .answer ≡ noRoom) ↔ Each (λ h. h .state ≡ FREE → h .nbytes < needOf size) (clumpsOf img)
+    go : (o : Option Head) → seek (fits (needOf size)) (clumpsOf img) ≡ o → (answerOf fuse (placed clears (needOf size) o) .answer ≡ noRoom) ↔ Each (λ h. h .state ≡ FREE → h .nbytes < needOf size) (clumpsOf img)
     go none e = ((λ z. each-map _ _ (clumpsOf img) (unfit (needOf size)) (seek-none _ (clumpsOf img) e)), (λ z. refl))
     go (some h) e = (
-      (λ z. absurd (granted-room (ltb fuse (length (reserveStores (needOf size) h))) _ _ _ z)),
+      (λ z. absurd (granted-room (ltb fuse (length (reserveStores clears (needOf size) h))) _ _ _ z)),
       (λ z. some-none e (none-seek _ (clumpsOf img) (each-map _ _ (clumpsOf img) (passed (needOf size)) z))),
     )

@@ -11,14 +11,15 @@ use borrow.Author.Tests.{leb-true, not-false}
 use Rattle.rules.specs.Lists.{Each}
 use Rattle.rules.specs.Words.{Mem, Store, store, wordBytes, wordValues}
 use Rattle.rules.specs.Pages.{unit}
-use Rattle.rules.specs.Clumps.{Head, bodyOf, endOf, isFree, slots, valueAt, Choice, unmarked, slotsBy, entriesBy, stateAt, FREE, RESERVED, ACTIVE, FREEING}
+use Rattle.rules.specs.Clumps.{Head, headerBytes, bodyOf, endOf, isFree, slots, valueAt, Choice, unmarked, slotsBy, entriesBy, stateAt, FREE, RESERVED, ACTIVE, FREEING}
 use Rattle.rules.specs.Answers.{storesOf, badTarget, bytesOf}
-use Rattle.rules.specs.Stores.{emptying, setState, leastRest, reserveStores, lastOf, finishActivating, finishFreeing, joinBefore, joinBoth, Run, joinRun, joining}
+use Rattle.rules.specs.Stores.{emptying, setState, leastRest, clearing, reserveStores, lastOf, finishActivating, finishFreeing, joinBefore, joinBoth, Run, joinRun, joining}
 use Rattle.rules.specs.Requests.{listed, withdrawn}
 use Rattle.laws.specs.Searches.{those-each, each-append, each-map, map-each, last-each}
 use Rattle.laws.specs.Behind.{behind-test}
 use Rattle.laws.specs.Lying.{Lies}
 use Rattle.laws.specs.Spans.{RunsTile, runs-le}
+use Rattle.laws.specs.Clearing.{clearing-each}
 
 -- P holds of a store to any word of a up to b; where N holds, the word stored is one of 64 bits
 abbrev pub Into : (Store → Type 0) → Type 0 → ℕ → ℕ → Type 0
@@ -57,13 +58,21 @@ module _ (P : Store → Type 0) (N : Type 0) (n : ℕ) where
       map-each P (λ s. store s 0) sl
       (each-map (Slot h) (λ s. P (store s 0)) sl (λ s e. t .1 .header s 0 (e .0) (let l = e .1 in omega arith) (e .2) (λ z. omega arith)) f)
 
-  -- reserve, in the FREE clump that was found
-  pub reserve-lands : (need : ℕ) (h : Head) → In h → isFree h ≡ true → need % unit ≡ 0 → need ≤ h .nbytes → Each P (reserveStores need h)
+  -- reserve, in the FREE clump that was found, in either form
+  pub reserve-lands : (clears : Bool) (need : ℕ) (h : Head) → In h → isFree h ≡ true → need % unit ≡ 0 → headerBytes ≤ need → need ≤ h .nbytes → Each P (reserveStores clears need h)
   unfolding reserveStores
-  reserve-lands need h t f e l = go (leb leastRest (h .nbytes - need)) refl
+  reserve-lands clears need h t f e g l = go (leb leastRest (h .nbytes - need)) refl
     where
       emptied : Each P (emptying (slots (h .at)))
       emptied = emptying-lands h t (slots (h .at)) (slots-in n h (t .0))
+
+      -- the body of the first so many bytes, and the state
+      taken : (size : ℕ) → headerBytes ≤ size → size ≤ h .nbytes → Each P (clearing clears (h .at) size ++ (setState h RESERVED ∷ []))
+      taken size b u =
+          let v = t .0 .even in
+          each-append P (clearing clears (h .at) size) (setState h RESERVED ∷ [])
+          (clearing-each P clears (h .at) size (omega arith) b (λ o i j d. t .1 .whole f o 0 (omega arith) (omega arith) d (λ z. omega arith)))
+          (state-lands h t RESERVED (omega arith), tt)
 
       go :
           (b : Bool)
@@ -72,8 +81,8 @@ module _ (P : Store → Type 0) (N : Type 0) (n : ℕ) where
           (cond b
           (store (h .at + need) (h .nbytes - need)
           ∷ store (stateAt (h .at + need)) FREE
-          ∷ (emptying (slots (h .at)) ++ (store (h .at) need ∷ setState h RESERVED ∷ [])))
-          (emptying (slots (h .at)) ++ (setState h RESERVED ∷ [])))
+          ∷ (emptying (slots (h .at)) ++ (store (h .at) need ∷ (clearing clears (h .at) need ++ (setState h RESERVED ∷ [])))))
+          (emptying (slots (h .at)) ++ (clearing clears (h .at) (h .nbytes) ++ (setState h RESERVED ∷ []))))
       go true q =
           let k = leb-true leastRest (h .nbytes - need) q in
           let v = t .0 .even in
@@ -82,11 +91,13 @@ module _ (P : Store → Type 0) (N : Type 0) (n : ℕ) where
             t .1 .whole f _ _ (omega arith) (omega arith) (omega arith) (λ z. omega arith),
             (
               t .1 .whole f _ _ (omega arith) (omega arith) (omega arith) (λ z. omega arith),
-              each-append P (emptying (slots (h .at))) (store (h .at) need ∷ setState h RESERVED ∷ []) emptied
-                  (size-lands h t need (omega arith), (state-lands h t RESERVED (omega arith), tt)),
+              each-append P (emptying (slots (h .at))) (store (h .at) need ∷ (clearing clears (h .at) need ++ (setState h RESERVED ∷ []))) emptied
+                  (size-lands h t need (omega arith), taken need g l),
             ),
           )
-      go false q = each-append P (emptying (slots (h .at))) (setState h RESERVED ∷ []) emptied (state-lands h t RESERVED (omega arith), tt)
+      go false q =
+          each-append P (emptying (slots (h .at))) (clearing clears (h .at) (h .nbytes) ++ (setState h RESERVED ∷ [])) emptied
+          (taken (h .nbytes) (omega arith) (omega arith))
 
   -- a new entry, and the last one emptied
   pub listed-lands : (h : Head) → In h → (b : Bool) (o : Option ℕ) (p t v : ℕ) → ((s : ℕ) → o ≡ some s → Slot h s) → (b ≡ true → N → t < wordValues) → (N → v < wordValues) → Each P (storesOf (listed b o p t v))

@@ -9,7 +9,7 @@ use lib.ListN.{length}
 use Rattle.rules.specs.Words.{wordValues}
 use Rattle.rules.specs.Pages.{codes}
 use Rattle.rules.specs.Cases.{longest}
-use Rattle.rules.specs.declared.Request.the-variants.{Reserve, Onactive, Onfree, Withdraw, Activate, Free, Recover}
+use Rattle.rules.specs.declared.Request.the-variants.{Reserve, ReserveUncleared, Onactive, Onfree, Withdraw, Activate, Free, Recover}
 use Rattle.text.specs.Texts.{space, zeroDigit}
 use Rattle.line.specs.declared.Line.{Line}
 use Rattle.line.specs.declared.Line.the-variants.{Ask, Fuse, Walk, Bad}
@@ -68,11 +68,12 @@ named name [] = Bad
 named name (e ∷ es) = elim (same name (codes (e .0))) [ true ↦ e .1 | false ↦ named name es ]
 
 -- "Each input line is a request name (not create or check) and decimal numbers: size; or offset; or offset, target, value; recover
--- takes none." Besides there are `fuse k` and `walk`. The names that take these numbers, each with its line:
+-- takes none." Besides there are `fuse k` and `walk`, and W5's "second form of the request". The names that take these numbers, each with its line:
 unfoldable pub commands : List ℕ → List (String × Line)
 commands [] = ("recover", Ask Recover) ∷ ("walk", Walk) ∷ []
 commands (n ∷ []) =
     ("reserve", Ask (Reserve n))
+    ∷ ("reserve_uncleared", Ask (ReserveUncleared n))
     ∷ ("withdraw", Ask (Withdraw n))
     ∷ ("activate", Ask (Activate n))
     ∷ ("free", Ask (Free n))

@@ -142,6 +142,11 @@ fn with_one(name: &[u8], n: u64) -> Line
             q: Request::Reserve { size: n },
         };
     }
+    if same(name, b"reserve_uncleared") {
+        return Line::Ask {
+            q: Request::ReserveUncleared { size: n },
+        };
+    }
     if same(name, b"withdraw") {
         return Line::Ask {
             q: Request::Withdraw { offset: n },

@@ -4,9 +4,10 @@ pub mod Cuts
 pub mod Held
 pub mod Fates
 pub mod Orders
--- One part of the clumps replaced; stores made again; a list emptied; valid targets; a list carried out; one state stored.
+-- One part of the clumps replaced; stores made again; what stores leave; a list emptied; valid targets; a list carried out; one state stored.
 pub mod Parts
 pub mod Redo
+pub mod Blanked
 pub mod Emptied
 pub mod Targets
 pub mod Carrying
@@ -32,11 +33,11 @@ pub mod Turns
 pub mod Requested
 -- Images and histories: the theorems that the demands name.
 pub mod Images
-pub mod Blanked
 pub mod Creating
 pub mod Histories
 pub mod Again
 pub mod Linked
 pub mod Fresh
+pub mod Cleared
 -- The orders that are wrong.
 pub mod Wrong

@@ -1,14 +1,15 @@
 -- The orders of stores that the laws of cuts are about, each by its name in the rules. A law that is about one of them opens it here,
 -- so that another order in its place (crates/loss/must-fail) is refused by the law. Assumes nothing.
 use Prim.Native.Nat.{ℕ}
+use mathlib.Core.Bool.{Bool}
 use mathlib.Core.List.{List}
 use Rattle.rules.specs.Words.{Mem, Store}
 use Rattle.rules.specs.Clumps.{Head}
 use Rattle.rules.specs.Stores.{reserveStores, listStores, finishActivating, dropStores, recoverStores}
 
--- reserve: the rest's header, the targets, the smaller nbytes, the state
-unfoldable pub reserveOrder : ℕ → Head → List Store
-reserveOrder need h = reserveStores need h
+-- reserve: the rest's header, the targets, the smaller nbytes, the body, the state
+unfoldable pub reserveOrder : Bool → ℕ → Head → List Store
+reserveOrder clears need h = reserveStores clears need h
 
 -- onactive and onfree: the value, then the target
 unfoldable pub listOrder : ℕ → ℕ → ℕ → List Store

@@ -8,12 +8,12 @@ use mathlib.Core.List.{List, [], _∷_, _++_}
 use lib.Dec.{eqb, ltb}
 use borrow.Author.Tests.{leb-true, eqb-false, not-false}
 use Rattle.rules.specs.declared.Request.{Request}
-use Rattle.rules.specs.declared.Request.the-variants.{Create, Reserve, Onactive, Onfree, Withdraw, Activate, Free, Check, Recover}
+use Rattle.rules.specs.declared.Request.the-variants.{Create, Reserve, ReserveUncleared, Onactive, Onfree, Withdraw, Activate, Free, Check, Recover}
 use Rattle.rules.specs.Lists.{seek, Each}
 use Rattle.rules.specs.Words.{Mem}
 use Rattle.rules.specs.Clumps.{Head, hasState, isFree, isWaiting, slots, used, unmarked, freed, targetOf, withMark, slotsBy, entriesBy, RESERVED, walk}
 use Rattle.rules.specs.Sound.{isValid, allValid, touching, unsettled}
-use Rattle.rules.specs.Answers.{storesOf, sizeZero, wrongState, badTarget}
+use Rattle.rules.specs.Answers.{storesOf, sizeZero, wrongState, badTarget, ifSettled}
 use Rattle.rules.specs.Stores.{needOf, fits, reserveStores, activateStores, freeStores, recoverStores}
 use Rattle.rules.specs.Requests.{placed, reserve, finder, openSlot, listed, enlist, withdrawn, withdraw, activate, free, verdict}
 use Rattle.rules.specs.Traces.{isCreate, beforeTurn, isThrough}
@@ -63,26 +63,32 @@ module _ (n : ℕ) (m : Mem) (s : Sound n m) (u : unsettled (walk n m) ≡ false
 
   -- the clump that reserve finds
   pub placing :
-      (size : ℕ) → (size ≡ 0 → ⊥) → (h : Head) → seek (fits (needOf size)) (walk n m) ≡ some h → (a : Amid n m h)
+      (clears : Bool) (size : ℕ) → (size ≡ 0 → ⊥) → (h : Head) → seek (fits (needOf size)) (walk n m) ≡ some h → (a : Amid n m h)
       → let k = fates m (a .below ++ (h ∷ a .above)) in
-      Reserved n (Owned k) k m m (a .below) h (a .above) (needOf size)
-  placing size z h e a =
+      Reserved clears n (Owned k) k m m (a .below) h (a .above) (needOf size)
+  placing clears size z h e a =
       let p = a .below in
       let q = a .above in
       let f = and-both (isFree h) _ (seek-split (fits (needOf size)) (walk n m) h e .passes) in
       let k = fates m (p ++ (h ∷ q)) in
       let t = a .held .tiles in
-      reserves n (Owned k) k m p h q (f .0) (λ o d. each-right (Off o) p (h ∷ q) (owned-off n m (p ++ (h ∷ q)) o t d) .0 .whole (f .0)) m (needOf size) (need-even size) (need-clump size z)
+      reserves n (Owned k) k m p h q (f .0) (λ o d. each-right (Off o) p (h ∷ q) (owned-off n m (p ++ (h ∷ q)) o t d) .0 .whole (f .0)) clears m (needOf size) (need-even size) (need-clump size z)
       (leb-true (needOf size) (h .nbytes) (f .1))
       (rests-as n (Owned k) m (p ++ (h ∷ q)) (a .held) (a .idle) (owned-beyond n m (p ++ (h ∷ q)) t))
 
-  placed-course : (size : ℕ) → (size ≡ 0 → ⊥) → (o : Option Head) → seek (fits (needOf size)) (walk n m) ≡ o → Course n m never (storesOf (placed (needOf size) o))
+  placed-course : (clears : Bool) (size : ℕ) → (size ≡ 0 → ⊥) → (o : Option Head) → seek (fits (needOf size)) (walk n m) ≡ o → Course n m never (storesOf (placed clears (needOf size) o))
   unfolding reserveOrder
-  placed-course size z none e = none-made never
-  placed-course size z (some h) e =
+  placed-course clears size z none e = none-made never
+  placed-course clears size z (some h) e =
       let a = amid n m (fits (needOf size)) h s u e in
-      let x = placing size z h e a in
-      course-comes n _ m m never (reserveStores (needOf size) h) (a .below ++ (x .clump ∷ x .above)) (x .comes) (x .calm (a .apart))
+      let x = placing clears size z h e a in
+      course-comes n _ m m never (reserveStores clears (needOf size) h) (a .below ++ (x .clump ∷ x .above)) (x .comes) (x .calm (a .apart))
+
+  reserve-course : (clears : Bool) (size : ℕ) → Course n m never (storesOf (ifSettled n m (reserve clears (walk n m) size)))
+  unfolding reserve
+  reserve-course clears size =
+      behind-settled (Course n m never) (none-made never) n m _
+      (λ y z. behind-test (Course n m never) (none-made never) (eqb size 0) sizeZero _ (λ e. placed-course clears size (eqb-false size 0 e) (seek (fits (needOf size)) (walk n m)) refl))
 
   -- the list of a clump
   listed-course : (h : Head) (o t r v : ℕ) → (isValid (walk n m) t ≡ true → targetOf r ≡ t) → Amid n m h → (e : Option ℕ) → openSlot m (slots (h .at)) ≡ e → Course n m never (storesOf (listed (isValid (walk n m) t) e o r v))
@@ -152,11 +158,10 @@ recover-course n m s =
     course-comes n (f .kept) (f .words) m never (recoverStores m (walk n m)) (r .clumps) (r .comes) (r .calm .apart)
 
 pub courses : (n : ℕ) (m : Mem) (q : Request) → Sound n m → unsettled (walk n m) ≡ false → isCreate q ≡ false → Course n m (isThrough m (walk n m) q) (storesOf (verdict n m q))
-unfolding verdict reserve
+unfolding verdict
 courses n m Create s u c = differ refl c
-courses n m (Reserve size) s u c =
-    behind-settled (Course n m never) (course-none n m never s u) n m _
-    (λ y z. behind-test (Course n m never) (course-none n m never s u) (eqb size 0) sizeZero _ (λ e. placed-course n m s u size (eqb-false size 0 e) (seek (fits (needOf size)) (walk n m)) refl))
+courses n m (Reserve size) s u c = reserve-course n m s u true size
+courses n m (ReserveUncleared size) s u c = reserve-course n m s u false size
 courses n m (Onactive o t v) s u c =
     behind-settled (Course n m never) (course-none n m never s u) n m _
     (λ y z. behind-found (Course n m never) (course-none n m never s u) (finder (walk n m) o) _ (λ h e. enlist-course n m s u (hasState RESERVED) o t t v h (λ x. target-even t (valid-even (walk n m) t x)) (amid n m _ h s u e)))

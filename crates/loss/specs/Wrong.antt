@@ -1,8 +1,9 @@
--- 01, "Plausible builds that are wrong", and five more, two of them W4's: each order of stores that the laws refuse, on a small pool, cut where it hurts,
--- and what recovery then answers and leaves. So the laws are not about one order by chance: these orders are wrong. One table, proved by
+-- 01, "Plausible builds that are wrong", and six more, two of them W4's and one W5's: each order of stores that the laws refuse, on a small
+-- pool, cut where it hurts, and what recovery then answers and leaves; of W5's, what the cut leaves, since recovery hides it. So the laws are not about one order by chance: these orders are wrong. One table, proved by
 -- computing. The numbers are worked out by hand from the paper's rules. Assumes nothing.
 use Prim.Native.Nat.{ℕ}
 use mathlib.Core.Path.{_≡_, refl}
+use mathlib.Core.Bool.{true}
 use mathlib.Core.List.{List, [], _∷_, _++_, map, reverse}
 use lib.ListN.{take}
 use Rattle.rules.specs.declared.Request.the-variants.{Recover}
@@ -10,7 +11,7 @@ use Rattle.rules.specs.Lists.{seek}
 use Rattle.rules.specs.Words.{Store, store, after}
 use Rattle.rules.specs.Clumps.{Head, head, stateAt, slots, valueAt, used, marked, unmarked, slotsBy, entriesBy, isPending, FREE, RESERVED, ACTIVATING, ACTIVE, FREEING, walk}
 use Rattle.rules.specs.Answers.{answerOf}
-use Rattle.rules.specs.Stores.{emptying, setState, finishing, releasing, released, runs, joining, finishFreeing}
+use Rattle.rules.specs.Stores.{emptying, setState, clearing, finishing, releasing, released, runs, joining, finishFreeing}
 use Rattle.rules.specs.Requests.{verdict}
 use Rattle.rules.specs.Reading.{Listed, listing}
 use Rattle.rules.specs.Cases.{Pool, poolOf, shape, under, longest, caseH, everyRule}
@@ -92,6 +93,17 @@ emptiedLast =
     let m = mixed .1 in
     setState (first mixed) FREEING ∷ (entriesBy marked m 16384 ++ (emptying (slotsBy unmarked m 16384) ++ (setState (first mixed) FREE ∷ [])))
 
+-- W5, reserve of 1 in a FREE clump of 128 bytes whose body begins with the word 5, an old valve position: cleared once it is RESERVED
+abbrev valve : Pool
+valve = poolOf ((128, 0) ∷ []) (store 16448 5 ∷ [])
+
+abbrev clearedLast : List Store
+clearedLast = emptying (slots 16384) ++ (setState (first valve) RESERVED ∷ clearing true 16384 128)
+
+-- what a technician reads in an image: the clumps, and the first word of the first body
+abbrev raw : Pool → List (ℕ × ℕ) × ℕ
+raw p = (shape p, p .1 16448)
+
 abbrev pub Wrong : Type 0
 Wrong =
     -- "in H a cut leaves (4096, 7) and recovery puts 7 back": 4096 would have to hold 9
@@ -111,7 +123,10 @@ Wrong =
     -- W4: with the FREEING store made, an unmarked entry that is left is carried out by recovery: 4096 would have to keep its 0
     × (recovered (cutAt 1 mixed freeingFirst) ≡ ((0, 0), ((128, 0) ∷ []), (plain 16400 4096 7 ∷ onFree 16416 4104 9 ∷ []), (7, 9)))
     × (recovered (cutAt 2 mixed emptiedLast) ≡ ((0, 0), ((128, 0) ∷ []), (plain 16400 4096 7 ∷ onFree 16416 4104 9 ∷ []), (7, 9)))
+    -- W5: "an old valve position out of a fresh record", which would have to be FREE still; recovered it is, so that only a raw image shows it
+    × (raw (cutAt 4 valve clearedLast) ≡ ((128, 1) ∷ [], 5))
+    × (recovered (cutAt 4 valve clearedLast) ≡ ((0, 0), ((128, 0) ∷ []), [], (0, 0)))
 
 pub wrong : Wrong
 unfolding everyRule
-wrong = (refl, refl, refl, refl, refl, refl, refl, refl, refl)
+wrong = (refl, refl, refl, refl, refl, refl, refl, refl, refl, refl, refl)

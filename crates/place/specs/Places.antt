@@ -1,6 +1,7 @@
 -- What reserve asks of the clump that was found, and a law for each way out of it. Assumes nothing.
 use Prim.Native.Nat.{ℕ, _+_, _-_, _%_, _<_, _≤_}
 use mathlib.Core.Path.{_≡_}
+use mathlib.Core.Bool.{Bool}
 use mathlib.Core.Option.{some, none}
 use mathlib.Core.List.{List, [], _∷_, _++_}
 use native.Mathlib.Omega.{arith}
@@ -9,11 +10,12 @@ use Rattle.rules.specs.declared.Answer.{Answer}
 use Rattle.rules.specs.Lists.{seek}
 use Rattle.rules.specs.Words.{Image, Mem, mem, store, wordValues}
 use Rattle.rules.specs.Pages.{clumpsAt, unit}
-use Rattle.rules.specs.Clumps.{Head, head, isFree, headerBytes, slots, stateAt, FREE, RESERVED, Tiles, walk, offsetOf}
+use Rattle.rules.specs.Clumps.{Head, head, isFree, headerBytes, leastClump, slots, stateAt, FREE, RESERVED, Tiles, walk, offsetOf}
 use Rattle.rules.specs.Answers.{granted, refuse, sizeZero, noRoom}
-use Rattle.rules.specs.Stores.{needOf, fits, emptying, leastRest, reserveStores}
+use Rattle.rules.specs.Stores.{needOf, fits, emptying, leastRest, clearing, reserveStores}
 use Rattle.rules.specs.Requests.{reserve}
 use Rattle.laws.specs.Searches.{and-both, seek-split}
+use Rattle.laws.specs.Needs.{need-clump}
 use Rattle.walk.specs.Scans.{offset-some, offset-inside}
 use Rattle.steps.specs.Acts.{Acts, acts-ran}
 use Rattle.word.specs.declared.Power.{Power}
@@ -22,65 +24,66 @@ use Rattle.word.specs.Runs.{full, Ran, told}
 -- the clump at h is large enough
 pub record Fit (n : ℕ) (m : Mem) (need h : ℕ) : Type 0 where
   pub even : h % unit ≡ 0
+  pub least : leastClump ≤ need
   pub enough : need ≤ m h
   pub room : h + m h ≤ n
   pub small : n < wordValues
 
 -- reserve, a law for each way out
-module _ (hs : List Head) (size : ℕ) where
-  pub reserve-zero : size ≡ 0 → reserve hs size ≡ refuse sizeZero
+module _ (clears : Bool) (hs : List Head) (size : ℕ) where
+  pub reserve-zero : size ≡ 0 → reserve clears hs size ≡ refuse sizeZero
   unfolding reserve
   reserve-zero e = rw (eq-eqb size 0 e)
 
-  pub reserve-none : (size ≡ 0 → ⊥) → seek (fits (needOf size)) hs ≡ none → reserve hs size ≡ refuse noRoom
+  pub reserve-none : (size ≡ 0 → ⊥) → seek (fits (needOf size)) hs ≡ none → reserve clears hs size ≡ refuse noRoom
   unfolding reserve
   reserve-none h e = rw (ne-eqb size 0 h, e)
 
-  pub reserve-some : (size ≡ 0 → ⊥) → (h : Head) → seek (fits (needOf size)) hs ≡ some h → reserve hs size ≡ granted (h .at + headerBytes) (reserveStores (needOf size) h)
+  pub reserve-some : (size ≡ 0 → ⊥) → (h : Head) → seek (fits (needOf size)) hs ≡ some h → reserve clears hs size ≡ granted (h .at + headerBytes) (reserveStores clears (needOf size) h)
   unfolding reserve
   reserve-some n h e = rw (ne-eqb size 0 n, e)
 
 -- the clump that first fit finds
 pub fit-found :
     (n : ℕ) (m : Mem) (size r : ℕ)
-    → n < wordValues → Tiles clumpsAt (walk n m) n → r ≡ offsetOf n (seek (fits (needOf size)) (walk n m)) → r < n → Fit n m (needOf size) r
-fit-found n m size r s t e l =
+    → (size ≡ 0 → ⊥) → n < wordValues → Tiles clumpsAt (walk n m) n → r ≡ offsetOf n (seek (fits (needOf size)) (walk n m)) → r < n → Fit n m (needOf size) r
+fit-found n m size r z s t e l =
     let i = offset-inside n m (fits (needOf size)) t n r e (λ q. omega arith) in
     let p = seek-split (fits (needOf size)) (walk n m) (head m r) (offset-some n m (fits (needOf size)) t n r e (λ q. omega arith)) .passes in
-    record { even = i .even; enough = leb-true (needOf size) (m r) (and-both (isFree (head m r)) _ p .1); room = i .room; small = s }
+    record { even = i .even; least = need-clump size z; enough = leb-true (needOf size) (m r) (and-both (isFree (head m r)) _ p .1); room = i .room; small = s }
 
 -- the stores of reserve, split or whole
 pub stores-split :
-    (need : ℕ) (h : Head)
+    (clears : Bool) (need : ℕ) (h : Head)
     → leastRest ≤ h .nbytes - need
-    → reserveStores need h
+    → reserveStores clears need h
     ≡ store (h .at + need) (h .nbytes - need)
     ∷ store (stateAt (h .at + need)) FREE
-    ∷ (emptying (slots (h .at)) ++ (store (h .at) need ∷ store (stateAt (h .at)) RESERVED ∷ []))
+    ∷ (emptying (slots (h .at)) ++ (store (h .at) need ∷ (clearing clears (h .at) need ++ (store (stateAt (h .at)) RESERVED ∷ []))))
 unfolding reserveStores
-stores-split need h l = rw (le-leb leastRest (h .nbytes - need) l)
+stores-split clears need h l = rw (le-leb leastRest (h .nbytes - need) l)
 
-pub stores-whole : (need : ℕ) (h : Head) → h .nbytes - need < leastRest → reserveStores need h ≡ emptying (slots (h .at)) ++ (store (stateAt (h .at)) RESERVED ∷ [])
+pub stores-whole : (clears : Bool) (need : ℕ) (h : Head) → h .nbytes - need < leastRest → reserveStores clears need h ≡ emptying (slots (h .at)) ++ (clearing clears (h .at) (h .nbytes) ++ (store (stateAt (h .at)) RESERVED ∷ []))
 unfolding reserveStores
-stores-whole need h l = rw (lt-leb leastRest (h .nbytes - need) l)
+stores-whole clears need h l = rw (lt-leb leastRest (h .nbytes - need) l)
 
 -- reserve in the clump that was found: with the nbytes n and the need k that the code has, and the power p that it starts from
-module _ (img : Image) (h size fuse n k : ℕ) (p : Power) (fresh : p ≡ full fuse) (size-is : n ≡ mem img h) (need-eq : k ≡ needOf size) where
+module _ (img : Image) (clears : Bool) (h size fuse n k : ℕ) (p : Power) (fresh : p ≡ full fuse) (size-is : n ≡ mem img h) (need-eq : k ≡ needOf size) where
   pub split-acts :
       {x : Image} {q : Power} {r : Answer}
       → leastRest ≤ n - k
-      → Ran img p (store (h + k) (n - k) ∷ store (stateAt (h + k)) FREE ∷ (emptying (slots h) ++ (store h k ∷ store (stateAt h) RESERVED ∷ []))) x q
+      → Ran img p (store (h + k) (n - k) ∷ store (stateAt (h + k)) FREE ∷ (emptying (slots h) ++ (store h k ∷ (clearing clears h k ++ (store (stateAt h) RESERVED ∷ []))))) x q
       → r ≡ told q (h + headerBytes)
-      → Acts img (granted (h + headerBytes) (reserveStores (needOf size) (head (mem img) h))) fuse x r
+      → Acts img (granted (h + headerBytes) (reserveStores clears (needOf size) (head (mem img) h))) fuse x r
   split-acts l s e =
-      rw (stores-split (needOf size) (head (mem img) h) (rw (← size-is, ← need-eq) l), ← size-is, ← need-eq)
+      rw (stores-split clears (needOf size) (head (mem img) h) (rw (← size-is, ← need-eq) l), ← size-is, ← need-eq)
       (acts-ran fuse (h + headerBytes) (rw fresh at s) e)
 
   pub whole-acts :
       {x : Image} {q : Power} {r : Answer}
       → n - k < leastRest
-      → Ran img p (emptying (slots h) ++ (store (stateAt h) RESERVED ∷ [])) x q
+      → Ran img p (emptying (slots h) ++ (clearing clears h n ++ (store (stateAt h) RESERVED ∷ []))) x q
       → r ≡ told q (h + headerBytes)
-      → Acts img (granted (h + headerBytes) (reserveStores (needOf size) (head (mem img) h))) fuse x r
+      → Acts img (granted (h + headerBytes) (reserveStores clears (needOf size) (head (mem img) h))) fuse x r
   whole-acts l s e =
-      rw (stores-whole (needOf size) (head (mem img) h) (rw (← size-is, ← need-eq) l)) (acts-ran fuse (h + headerBytes) (rw fresh at s) e)
+      rw (stores-whole clears (needOf size) (head (mem img) h) (rw (← size-is, ← need-eq) l), ← size-is) (acts-ran fuse (h + headerBytes) (rw fresh at s) e)

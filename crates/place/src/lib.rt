@@ -3,12 +3,11 @@ ghost use mathlib.Core.Path.{_≡_};
 ghost use mathlib.Core.List.{[], _∷_, _++_};
 ghost use Prim.Native.Nat.{_+_, _%_, _≤_, _<_};
 ghost use lib.ListN.{length};
-ghost use Rattle.rules.specs.declared.Request.the-variants.{Reserve};
 ghost use Rattle.rules.specs.Words.{wordBytes, wordValues, mem, store};
-ghost use Rattle.rules.specs.Clumps.{head, headerBytes, slots, stateAt, RESERVED, FREE};
+ghost use Rattle.rules.specs.Clumps.{head, headerBytes, leastClump, slots, stateAt, RESERVED, FREE};
 ghost use Rattle.rules.specs.Answers.{granted};
-ghost use Rattle.rules.specs.Stores.{emptying, needOf, reserveStores};
-ghost use Rattle.rules.specs.Requests.{Does};
+ghost use Rattle.rules.specs.Stores.{emptying, needOf, clearedWords, clearing, reserveStores};
+ghost use Rattle.rules.specs.Requests.{Does, reserving};
 ghost use Rattle.word.specs.Runs.{Ran};
 ghost use Rattle.steps.specs.Acts.{Acts};
 ghost use Rattle.place.specs.Places.{Fit};
@@ -24,50 +23,76 @@ fn need_of(size: u64) -> u64
     64 + (size / 64 + (size % 64 + 63) / 64) * 64
 }
 
-// The rest's header first, then the chosen clump's targets, size and state.
-fn split_off(img: &mut [u8], p: Power, h: usize, need: usize, rest: u64) -> Power
+// How many words of its body reserve clears, of a clump of so many bytes: all of them, or none in the form that keeps the old rule.
+fn cleared_words(size: usize, clears: bool) -> usize
+    requires { ⌜ leastClump ≤ size ⌝ }
+    ensures { λ r. ⌜ r ≡ clearedWords clears size ⌝ }
+{
+    if clears {
+        return (size - 64) / 8;
+    }
+    0
+}
+
+// What ends both ways, once the clump has its size: its body cleared, then its state.
+fn take(img: &mut [u8], p: Power, h: usize, size: usize, clears: bool) -> Power
+    requires { ⌜ leastClump ≤ size ⌝ }
+    requires { ⌜ h + size ≤ length (now img) ⌝ }
+    requires { ⌜ h % wordBytes ≡ 0 ⌝ }
+    requires { ⌜ p .made + p .left < wordValues ⌝ }
+    ensures { λ r. ⌜ Ran (now (img .entry)) p (clearing clears h size ++ (store (stateAt h) RESERVED ∷ [])) (now (img .exit)) r ⌝ }
+{
+    let words = cleared_words(size, clears);
+    let p1 = steps::zero_words(img, p, h + 64, words);
+    word::store(img, p1, h + 8, Clump::RESERVED)
+}
+
+// The rest's header first, then the chosen clump's targets and size, its body and its state.
+fn split_off(img: &mut [u8], p: Power, h: usize, need: usize, rest: u64, clears: bool) -> Power
+    requires { ⌜ leastClump ≤ need ⌝ }
     requires { ⌜ h + need + headerBytes ≤ length (now img) ⌝ }
-    requires { ⌜ h + headerBytes ≤ length (now img) ⌝ }
     requires { ⌜ (h % wordBytes ≡ 0) × (need % wordBytes ≡ 0) ⌝ }
     requires { ⌜ p .made + p .left < wordValues ⌝ }
-    ensures { λ r. ⌜ Ran (now (img .entry)) p (store (h + need) rest ∷ store (stateAt (h + need)) FREE ∷ (emptying (slots h) ++ (store h need ∷ store (stateAt h) RESERVED ∷ []))) (now (img .exit)) r ⌝ }
+    ensures { λ r. ⌜ Ran (now (img .entry)) p (store (h + need) rest ∷ store (stateAt (h + need)) FREE ∷ (emptying (slots h) ++ (store h need ∷ (clearing clears h need ++ (store (stateAt h) RESERVED ∷ []))))) (now (img .exit)) r ⌝ }
 {
     let p1 = word::store(img, p, h + need, rest);
     let p2 = word::store(img, p1, h + need + 8, Clump::FREE);
     let p3 = steps::empty_targets(img, p2, h);
     let p4 = word::store(img, p3, h, need as u64);
-    word::store(img, p4, h + 8, Clump::RESERVED)
+    take(img, p4, h, need, clears)
 }
 
-// The whole clump: its targets and its state.
-fn take_whole(img: &mut [u8], p: Power, h: usize) -> Power
-    requires { ⌜ h + headerBytes ≤ length (now img) ⌝ }
+// The whole clump: its targets, all of its body and its state.
+fn take_whole(img: &mut [u8], p: Power, h: usize, size: usize, clears: bool) -> Power
+    requires { ⌜ leastClump ≤ size ⌝ }
+    requires { ⌜ h + size ≤ length (now img) ⌝ }
     requires { ⌜ h % wordBytes ≡ 0 ⌝ }
     requires { ⌜ p .made + p .left < wordValues ⌝ }
-    ensures { λ r. ⌜ Ran (now (img .entry)) p (emptying (slots h) ++ (store (stateAt h) RESERVED ∷ [])) (now (img .exit)) r ⌝ }
+    ensures { λ r. ⌜ Ran (now (img .entry)) p (emptying (slots h) ++ (clearing clears h size ++ (store (stateAt h) RESERVED ∷ []))) (now (img .exit)) r ⌝ }
 {
     let p1 = steps::empty_targets(img, p, h);
-    word::store(img, p1, h + 8, Clump::RESERVED)
+    take(img, p1, h, size, clears)
 }
 
 // Reserve, in the clump that was found.
-fn reserve_at(img: &mut [u8], h: usize, size: u64, fuse: u64) -> Answer
+fn reserve_at(img: &mut [u8], h: usize, size: u64, clears: bool, fuse: u64) -> Answer
     requires { ⌜ Fit (length (now img)) (mem (now img)) (needOf size) h ⌝ }
-    ensures { λ r. ⌜ Acts (now (img .entry)) (granted (h + headerBytes) (reserveStores (needOf size) (head (mem (now (img .entry))) h))) fuse (now (img .exit)) r ⌝ }
+    ensures { λ r. ⌜ Acts (now (img .entry)) (granted (h + headerBytes) (reserveStores clears (needOf size) (head (mem (now (img .entry))) h))) fuse (now (img .exit)) r ⌝ }
 {
     let n = word::get(img, h);
     let need = need_of(size);
     let p = Power::new(fuse);
     if Clump::LEAST <= n - need {
-        let q = split_off(img, p, h, need as usize, n - need);
+        let q = split_off(img, p, h, need as usize, n - need, clears);
         return answer::finish(q, h as u64 + Clump::HEADER);
     }
-    let q = take_whole(img, p, h);
+    let q = take_whole(img, p, h, n as usize, clears);
     answer::finish(q, h as u64 + Clump::HEADER)
 }
 
-pub fn reserve(img: &mut [u8], size: u64, fuse: u64) -> Answer
-    ensures { λ r. ⌜ Does (now (img .entry)) (Reserve size) fuse (now (img .exit)) r ⌝ }
+// Reserve, in the form that clears the body or in the one that does not.
+pub fn reserve(img: &mut [u8], size: u64, clears: bool, fuse: u64) -> Answer
+    ensures { λ r. ⌜ Does (now (img .entry)) (reserving clears size) fuse (now (img .exit)) r ⌝ }
 {
     let a = survey::survey(img);
     if a.answer != Answer::DONE {
@@ -80,5 +105,5 @@ pub fn reserve(img: &mut [u8], size: u64, fuse: u64) -> Answer
     if img.len() <= h {
         return answer::refusal(Answer::NO_ROOM);
     }
-    reserve_at(img, h, size, fuse)
+    reserve_at(img, h, size, clears, fuse)
 }

@@ -1,6 +1,6 @@
-// The pool: the nine requests of document 01, and `ask`, which takes any of them. This is the library that an owner links.
+// The pool: the ten requests of documents 01 and 02, and `ask`, which takes any of them. This is the library that an owner links.
 // Every function takes any bytes, any numbers and any fuse; a refusal changes no byte. The work is done in the crates below.
-ghost use Rattle.rules.specs.declared.Request.the-variants.{Create, Reserve, Onactive, Onfree, Withdraw, Activate, Free, Recover};
+ghost use Rattle.rules.specs.declared.Request.the-variants.{Create, Reserve, ReserveUncleared, Onactive, Onfree, Withdraw, Activate, Free, Recover};
 ghost use Rattle.rules.specs.Requests.{Does};
 ghost use Rattle.survey.specs.Checking.{Checks};
 use rules::Answer;
@@ -14,11 +14,18 @@ pub fn create(img: &mut [u8], fuse: u64) -> Answer
     create::create(img, fuse)
 }
 
-// A body of at least that size, RESERVED. The place is the body's offset.
+// A body of at least that size, RESERVED, and each byte of it 0. The place is the body's offset.
 pub fn reserve(img: &mut [u8], size: u64, fuse: u64) -> Answer
     ensures { λ r. ⌜ Does (now (img .entry)) (Reserve size) fuse (now (img .exit)) r ⌝ }
 {
-    place::reserve(img, size, fuse)
+    place::reserve(img, size, true, fuse)
+}
+
+// The same for a caller that writes every byte of the body itself: it has the bytes that it had.
+pub fn reserve_uncleared(img: &mut [u8], size: u64, fuse: u64) -> Answer
+    ensures { λ r. ⌜ Does (now (img .entry)) (ReserveUncleared size) fuse (now (img .exit)) r ⌝ }
+{
+    place::reserve(img, size, false, fuse)
 }
 
 // An assignment to be carried out when the RESERVED clump is activated.
@@ -70,13 +77,14 @@ pub fn recover(img: &mut [u8], fuse: u64) -> Answer
     mend::recover(img, fuse)
 }
 
-// Any of the nine requests.
+// Any of the ten requests.
 pub fn ask(img: &mut [u8], q: Request, fuse: u64) -> Answer
     ensures { λ r. ⌜ Does (now (img .entry)) q fuse (now (img .exit)) r ⌝ }
 {
     match q {
         Request::Create => create(img, fuse),
         Request::Reserve { size } => reserve(img, size, fuse),
+        Request::ReserveUncleared { size } => reserve_uncleared(img, size, fuse),
         Request::Onactive {
             offset,
             target,

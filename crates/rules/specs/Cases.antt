@@ -1,11 +1,12 @@
 -- 01, "Numbers to try": the cases A to J and the whole case of "The program", as one table over the definitions, proved by one
--- statement. The numbers expected are the paper's; where it gives a part only, the rest follows from its rules by hand.
+-- statement. The numbers expected are the paper's; where it gives a part only, the rest follows from its rules by hand. Reserve is there in
+-- both forms (02, W5): 01's counts are those of the second.
 -- Assumes nothing.
 use Prim.Native.Nat.{ℕ, _+_, _-_}
 use mathlib.Core.Path.{_≡_, refl}
-use mathlib.Core.Bool.{true}
+use mathlib.Core.Bool.{true, false}
 use mathlib.Core.List.{List, [], _∷_, _++_, map}
-use lib.ListN.{take}
+use lib.ListN.{take, replicate}
 use Rattle.rules.specs.declared.Answer.{Answer}
 use Rattle.rules.specs.declared.Request.{Request}
 use Rattle.rules.specs.declared.Request.the-variants.{Create, Reserve, Activate, Free, Recover}
@@ -15,8 +16,8 @@ use Rattle.rules.specs.Pages.{headerAt, signatureLow, signatureHigh, sig
 use Rattle.rules.specs.Clumps.{stateAt, marked, unmarked, targetOf, headsFrom, walk}
 use Rattle.rules.specs.Sound.{sizeBad, stateBad, inPlace, listBad, faultOf, clumpFault, secondFault, isValid, allValid, targetFault, judge, touching, unsettled}
 use Rattle.rules.specs.Answers.{storesOf, widened, answerOf, ifSound, ifSettled, bytesOf}
-use Rattle.rules.specs.Stores.{createStores, needOf, reserveStores, finishActivating, finishFreeing, activateStores, dropStores, freeStores, releasing, runs, joining, recoverStores}
-use Rattle.rules.specs.Requests.{reserve, openSlot, enlist, withdraw, activate, free, verdict, answerFor}
+use Rattle.rules.specs.Stores.{createStores, needOf, clearedWords, reserveStores, finishActivating, finishFreeing, activateStores, dropStores, freeStores, releasing, runs, joining, recoverStores}
+use Rattle.rules.specs.Requests.{reserve, reserving, openSlot, enlist, withdraw, activate, free, verdict, answerFor}
 
 -- a pool: its length and its memory
 abbrev pub Pool : Type 0
@@ -66,6 +67,10 @@ Row = ℕ × ℕ × ℕ × List (ℕ × ℕ)
 abbrev pub row : ℕ → Pool → Request → Row
 row fuse p q = let r = answerIn fuse p q in (r .answer, r .place, r .stores, shape (under fuse p q))
 
+-- reserve, in both forms: that which clears, and the other
+abbrev pub rows : Pool → ℕ → List Row
+rows p size = map (λ clears. row longest p (reserving clears size)) (true ∷ false ∷ [])
+
 -- H: RESERVED 256 with the list (4096, 7), (4096, 9); 4096 holds 1
 abbrev pub caseH : Pool
 caseH = poolOf ((256, 1) ∷ []) (store 16400 4096 ∷ store 16408 7 ∷ store 16416 4096 ∷ store 16424 9 ∷ store staticAt 1 ∷ [])
@@ -94,26 +99,29 @@ fresh = poolOf ((16384, 0) ∷ []) []
 
 -- a row is computed by opening every rule that it may meet
 unfoldable pub everyRule : Unit {0}
-unfolding seek those any all le puts wordAt put mem upd after zeros allZero signatureLow signatureHigh rightLength isPool marked unmarked targetOf headsFrom walk sizeBad stateBad inPlace listBad faultOf clumpFault secondFault isValid allValid targetFault judge touching unsettled widened answerOf ifSound ifSettled bytesOf createStores needOf reserveStores finishActivating finishFreeing activateStores dropStores freeStores releasing runs joining recoverStores reserve openSlot enlist withdraw activate free verdict
+unfolding seek those any all le puts wordAt put mem upd after zeros allZero signatureLow signatureHigh rightLength isPool marked unmarked targetOf headsFrom walk sizeBad stateBad inPlace listBad faultOf clumpFault secondFault isValid allValid targetFault judge touching unsettled widened answerOf ifSound ifSettled bytesOf createStores needOf clearedWords reserveStores finishActivating finishFreeing activateStores dropStores freeStores releasing runs joining recoverStores reserve openSlot enlist withdraw activate free verdict
 everyRule = tt
 
 abbrev pub Cases : Type 0
 Cases =
     -- A
     (map needOf (1 ∷ 64 ∷ 65 ∷ 1000 ∷ []) ≡ 128 ∷ 128 ∷ 192 ∷ 1088 ∷ [])
-    -- B
-    × (row longest (poolOf ((256, 3) ∷ (2048, 0) ∷ (256, 3) ∷ []) []) (Reserve 1000)
-    ≡ (0, 16704, 7, ((256, 3) ∷ (1088, 1) ∷ (960, 0) ∷ (256, 3) ∷ [])))
-    -- C to F
-    × (map (λ size. row longest (poolOf ((size, 0) ∷ []) []) (Reserve 1000)) (1216 ∷ 1152 ∷ 1088 ∷ 1024 ∷ [])
-    ≡ (0, 16448, 7, ((1088, 1) ∷ (128, 0) ∷ []))
-    ∷ (0, 16448, 4, ((1152, 1) ∷ []))
-    ∷ (0, 16448, 4, ((1088, 1) ∷ []))
-    ∷ (5, 0, 0, ((1024, 0) ∷ []))
+    -- B: 1,024 bytes of a body are 128 words
+    × (rows (poolOf ((256, 3) ∷ (2048, 0) ∷ (256, 3) ∷ []) []) 1000
+    ≡ map (λ count. (0, 16704, count, ((256, 3) ∷ (1088, 1) ∷ (960, 0) ∷ (256, 3) ∷ []))) (135 ∷ 7 ∷ []))
+    -- C to F: of 1,088 bytes 136
+    × (map (λ size. rows (poolOf ((size, 0) ∷ []) []) 1000) (1216 ∷ 1152 ∷ 1088 ∷ 1024 ∷ [])
+    ≡ map (λ count. (0, 16448, count, ((1088, 1) ∷ (128, 0) ∷ []))) (135 ∷ 7 ∷ [])
+    ∷ map (λ count. (0, 16448, count, ((1152, 1) ∷ []))) (140 ∷ 4 ∷ [])
+    ∷ map (λ count. (0, 16448, count, ((1088, 1) ∷ []))) (132 ∷ 4 ∷ [])
+    ∷ replicate 2 (5, 0, 0, ((1024, 0) ∷ []))
     ∷ [])
-    -- G
-    × (map (λ size. row longest (poolOf ((16384, 0) ∷ []) []) (Reserve size)) (16320 ∷ 16321 ∷ 18446744073709551615 ∷ [])
-    ≡ (0, 16448, 4, ((16384, 1) ∷ [])) ∷ (5, 0, 0, ((16384, 0) ∷ [])) ∷ (5, 0, 0, ((16384, 0) ∷ [])) ∷ [])
+    -- G: of 16,320 bytes 2,040
+    × (map (rows (poolOf ((16384, 0) ∷ []) [])) (16320 ∷ 16321 ∷ 18446744073709551615 ∷ [])
+    ≡ map (λ count. (0, 16448, count, ((16384, 1) ∷ []))) (2044 ∷ 4 ∷ [])
+    ∷ replicate 2 (5, 0, 0, ((16384, 0) ∷ []))
+    ∷ replicate 2 (5, 0, 0, ((16384, 0) ∷ []))
+    ∷ [])
     -- H: activate, and each of its cuts
     × (row longest caseH (Activate 16448) ≡ (0, 16448, 6, ((256, 3) ∷ [])))
     × (map cutH (0 ∷ 1 ∷ 2 ∷ 3 ∷ 4 ∷ 5 ∷ 6 ∷ [])
@@ -133,8 +141,8 @@ Cases =
     × (row longest (32768, λ o. o) Create ≡ (0, 0, 1033, ((16384, 0) ∷ [])))
     × (map createCut (0 ∷ 1 ∷ 1032 ∷ 1033 ∷ []) ≡ 12288 ∷ 0 ∷ 0 ∷ signatureLow ∷ [])
     × (isPool 32768 (under longest (32768, λ o. o) Create .1) ≡ true)
-    -- the program's whole case
-    × (row longest fresh (Reserve 1000) ≡ (0, 16448, 7, ((1088, 1) ∷ (15296, 0) ∷ [])))
+    -- the program's whole case: "prints 135 where it printed 7"
+    × (rows fresh 1000 ≡ map (λ count. (0, 16448, count, ((1088, 1) ∷ (15296, 0) ∷ []))) (135 ∷ 7 ∷ []))
     × (row longest (under longest fresh (Reserve 1000)) (Activate 16448) ≡ (0, 16448, 2, ((1088, 3) ∷ (15296, 0) ∷ [])))
 
 cases : Cases

@@ -11,15 +11,15 @@ use lib.Dec.{eqb}
 use lib.ListN.{length, getD, take}
 use Rattle.rules.specs.declared.Answer.{Answer}
 use Rattle.rules.specs.declared.Request.{Request}
-use Rattle.rules.specs.declared.Request.the-variants.{Create, Reserve, Onactive, Onfree, Withdraw, Activate, Free, Check, Recover}
+use Rattle.rules.specs.declared.Request.the-variants.{Create, Reserve, ReserveUncleared, Onactive, Onfree, Withdraw, Activate, Free, Check, Recover}
 use Rattle.rules.specs.Lists.{seek, any, Each}
 use Rattle.rules.specs.Words.{Image, Mem, Store, Bytes, Aligned, mem, wordBytes}
 use Rattle.rules.specs.Pages.{isPool, staticAt, clumpsAt}
 use Rattle.rules.specs.Clumps.{Head, headerBytes, bodyOf, endOf, FREE, RESERVED, hasState, isLive, isWaiting, isPending, Choice, unmarked, due, freed, entriesBy}
 use Rattle.rules.specs.Sound.{judge, unsettled}
 use Rattle.rules.specs.Answers.{done, notSound, noRoom, cutShort}
-use Rattle.rules.specs.Stores.{createCount, needOf, leastRest, splitCount, wholeCount, mostActivateCount, mostFreeCount}
-use Rattle.rules.specs.Requests.{Numbers, Does, cut, finished, finder, storesFor, answerOn, totalsOn}
+use Rattle.rules.specs.Stores.{createCount, needOf, leastRest, clearedWords, splitCount, wholeCount, mostActivateCount, mostFreeCount}
+use Rattle.rules.specs.Requests.{Numbers, Does, reserving, cut, finished, finder, storesFor, answerOn, totalsOn}
 use Rattle.rules.specs.Reading.{clumpsOf, within, inPart, hidden, inSparePage}
 use Rattle.rules.specs.Traces.{isCreate}
 
@@ -58,21 +58,21 @@ pub record Settled (img : Image) : Type 0 where
 abbrev pub Accepted : Image → Request → Type 0
 Accepted img q = answerOn img q (length (storesFor img q)) .answer ≡ done
 
--- Demand 2: "'no room' exactly if no FREE clump is large enough"
+-- Demand 2: "'no room' exactly if no FREE clump is large enough", of both forms of reserve (W5)
 abbrev pub NoRoom : Type 0
 NoRoom =
-    (img : Image) (size fuse : ℕ)
+    (img : Image) (clears : Bool) (size fuse : ℕ)
     → Settled img
     → 0 < size
-    → (answerOn img (Reserve size) fuse .answer ≡ noRoom)
+    → (answerOn img (reserving clears size) fuse .answer ≡ noRoom)
     ↔ Each (λ h. h .state ≡ FREE → h .nbytes < needOf size) (clumpsOf img)
 
 -- Demand 2: "first fit". "The scan stops at the first FREE clump with nbytes at least need": a reserve that is done answers with the
 -- body of a clump of the walk that is FREE and large enough, and no FREE one before it is
 abbrev pub FirstFit : Type 0
 FirstFit =
-    (img : Image) (size fuse : ℕ)
-    → let r = answerOn img (Reserve size) fuse in
+    (img : Image) (clears : Bool) (size fuse : ℕ)
+    → let r = answerOn img (reserving clears size) fuse in
     r .answer ≡ done
     → (lower : List Head)
     × (h : Head)
@@ -90,22 +90,35 @@ Apart h k = (endOf h ≤ k .at) ⊎ (endOf k ≤ h .at)
 -- a body that was reserved is as large as was asked, and its clump shares no byte with a clump that was live before
 abbrev pub Fresh : Type 0
 Fresh =
-    (img : Image) (size fuse : ℕ)
-    → let r = answerOn img (Reserve size) fuse in
+    (img : Image) (clears : Bool) (size fuse : ℕ)
+    → let r = answerOn img (reserving clears size) fuse in
     Bytes img
     → r .answer ≡ done
     → (h : Head)
-    × (finder (clumpsOf (finished img (Reserve size))) (r .place) ≡ some h)
+    × (finder (clumpsOf (finished img (reserving clears size))) (r .place) ≡ some h)
     × (h .state ≡ RESERVED)
     × (bodyOf h + size ≤ endOf h)
     × Each (λ k. isLive k ≡ true → Apart h k) (clumpsOf img)
 
--- "The body isn't cleared.": every byte of a body that was reserved is what it was
+-- W5, of the first form: after a finished reserve every byte of the new body is 0; and in no image that a cut of it leaves is the new
+-- clump RESERVED while a byte of its body is not 0, recovered or not ("a technician read an old valve position out of a fresh record")
+abbrev pub Cleared : Type 0
+Cleared =
+    (img : Image) (size fuse i : ℕ) (h : Head)
+    → let q = Reserve size in
+    let x = cut img q fuse in
+    Bytes img
+    → Accepted img q
+    → finder (clumpsOf x) (answerOn img q (length (storesFor img q)) .place) ≡ some h
+    → within (bodyOf h) (endOf h) i ≡ true
+    → (answerOn img q fuse .answer ≡ done → getD x i 0 ≡ 0) × (h .state ≡ RESERVED → getD x i 0 ≡ 0)
+
+-- "The body isn't cleared." W5: of the form that "keeps the old rule" every byte of a body that was reserved is what it was
 abbrev pub NotCleared : Type 0
 NotCleared =
     (img : Image) (size fuse i : ℕ) (h : Head)
-    → let r = answerOn img (Reserve size) fuse in
-    let x = finished img (Reserve size) in
+    → let r = answerOn img (ReserveUncleared size) fuse in
+    let x = finished img (ReserveUncleared size) in
     Bytes img
     → r .answer ≡ done
     → finder (clumpsOf x) (r .place) ≡ some h
@@ -120,6 +133,7 @@ entriesOf t c m (some h) = cond (t h) (entriesBy (c h) m (h .at)) []
 abbrev pub carriedOut : Mem → List Head → Request → List Store
 carriedOut m hs Create = []
 carriedOut m hs (Reserve size) = []
+carriedOut m hs (ReserveUncleared size) = []
 carriedOut m hs (Onactive o t v) = []
 carriedOut m hs (Onfree o t v) = []
 carriedOut m hs (Withdraw o) = []
@@ -128,15 +142,20 @@ carriedOut m hs (Free o) = entriesOf isWaiting freed m (finder hs o)
 carriedOut m hs Check = []
 carriedOut m hs Recover = entriesOf isPending due m (seek isPending hs)
 
--- How many stores a request makes that is done. Create: "1,033 stores." Reserve: "With a rest of 128 or more .. 7 stores. With a
--- smaller rest .. 4 stores." Onactive and onfree: "value, then target". Withdraw: "0 to the last used target". Activate: "With e entries
+-- Reserve: "With a rest of 128 or more .. 7 stores. With a smaller rest .. 4 stores." W5: these "grow by body bytes divided by 8"
+abbrev pub CountedReserve : Bool → Image → ℕ → Answer → Type 0
+CountedReserve clears img size r =
+    (h : Head)
+    × (finder (clumpsOf img) (r .place) ≡ some h)
+    × (needOf size + leastRest ≤ h .nbytes → r .stores ≡ splitCount + clearedWords clears (needOf size))
+    × (h .nbytes < needOf size + leastRest → r .stores ≡ wholeCount + clearedWords clears (h .nbytes))
+
+-- How many stores a request makes that is done. Create: "1,033 stores." Reserve: as above. Onactive and onfree: "value, then target". Withdraw: "0 to the last used target". Activate: "With e entries
 -- this makes 2 + 2e stores, 8 at most", of the unmarked entries (W4). Free: "At most 7 stores." Of recover no number is given.
 abbrev pub Counted : Image → Request → Answer → Type 0
 Counted img Create r = r .stores ≡ createCount
-Counted img (Reserve size) r =
-    (h : Head)
-    × (finder (clumpsOf img) (r .place) ≡ some h)
-    × ((needOf size + leastRest ≤ h .nbytes → r .stores ≡ splitCount) × (h .nbytes < needOf size + leastRest → r .stores ≡ wholeCount))
+Counted img (Reserve size) r = CountedReserve true img size r
+Counted img (ReserveUncleared size) r = CountedReserve false img size r
 Counted img (Onactive o t v) r = r .stores ≡ 2
 Counted img (Onfree o t v) r = r .stores ≡ 2
 Counted img (Withdraw o) r = r .stores ≡ 1

@@ -9,7 +9,7 @@ use mathlib.Core.List.{List, [], _∷_, _++_, map}
 use lib.Dec.{eqb}
 use lib.ListN.{length}
 use Rattle.rules.specs.declared.Request.{Request}
-use Rattle.rules.specs.declared.Request.the-variants.{Create, Reserve, Onactive, Onfree, Withdraw, Activate, Free, Check, Recover}
+use Rattle.rules.specs.declared.Request.the-variants.{Create, Reserve, ReserveUncleared, Onactive, Onfree, Withdraw, Activate, Free, Check, Recover}
 use Rattle.rules.specs.Lists.{seek, any, all}
 use Rattle.rules.specs.Words.{Image, Mem, Store, store, mem}
 use Rattle.rules.specs.Pages.{isPool, rightLength}
@@ -95,7 +95,8 @@ finishing01 m (some h) = cond (hasState ACTIVATING h) (finishActivating01 m h) (
 
 unfoldable pub verdict01 : ℕ → Mem → Request → Verdict
 verdict01 n m Create = test (not (rightLength n)) notPool (granted 0 (createStores n))
-verdict01 n m (Reserve size) = ifSettled01 n m (reserve (walk n m) size)
+verdict01 n m (Reserve size) = ifSettled01 n m (reserve false (walk n m) size)
+verdict01 n m (ReserveUncleared size) = ifSettled01 n m (reserve false (walk n m) size)
 verdict01 n m (Onactive o t v) = let hs = walk n m in ifSettled01 n m (found (finder hs o) (enlist01 m hs RESERVED o t v))
 verdict01 n m (Onfree o t v) = let hs = walk n m in ifSettled01 n m (found (finder hs o) (enlist01 m hs ACTIVE o t v))
 verdict01 n m (Withdraw o) = ifSettled01 n m (found (finder (walk n m) o) (withdraw m o))
@@ -109,7 +110,8 @@ verdict01 n m Recover =
 -- the requests that W4 leaves as they were on such a pool: each but onfree, which "always writes" the mark "and now takes RESERVED too"
 abbrev pub isAsIn01 : Request → Bool
 isAsIn01 Create = true
-isAsIn01 (Reserve size) = true
+isAsIn01 (Reserve size) = false
+isAsIn01 (ReserveUncleared size) = true
 isAsIn01 (Onactive o t v) = true
 isAsIn01 (Onfree o t v) = false
 isAsIn01 (Withdraw o) = true

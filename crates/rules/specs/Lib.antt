@@ -16,4 +16,5 @@ pub mod Cases
 pub mod Samples
 pub mod ReadingSamples
 pub mod MarkSamples
+pub mod ClearSamples
 pub mod Earlier

@@ -1,9 +1,9 @@
--- The verdict on each of the nine requests: its tests by rising number, then its stores (01, "What a request answers" and
--- "Stores and the fuse"; 02, W4); what the finder answers (02, W7); and what a request makes of an image. Total on any length, any words and
+-- The verdict on each of the ten requests: its tests by rising number, then its stores (01, "What a request answers" and
+-- "Stores and the fuse"; 02, W4 and W5); what the finder answers (02, W7); and what a request makes of an image. Total on any length, any words and
 -- any numbers. Assumes nothing.
 use Prim.Native.Nat.{ℕ, _<_}
 use mathlib.Core.Path.{_≡_}
-use mathlib.Core.Bool.{Bool, cond, not}
+use mathlib.Core.Bool.{Bool, true, false, cond, not}
 use mathlib.Core.Option.{Option, some, none, Option·map}
 use mathlib.Core.List.{List, [], _∷_}
 use lib.Dec.{eqb}
@@ -11,7 +11,7 @@ use lib.ListN.{length, take}
 use Rattle.rules.specs.declared.Answer.{Answer}
 use Rattle.rules.specs.declared.Totals.{Totals}
 use Rattle.rules.specs.declared.Request.{Request}
-use Rattle.rules.specs.declared.Request.the-variants.{Create, Reserve, Onactive, Onfree, Withdraw, Activate, Free, Check, Recover}
+use Rattle.rules.specs.declared.Request.the-variants.{Create, Reserve, ReserveUncleared, Onactive, Onfree, Withdraw, Activate, Free, Check, Recover}
 use Rattle.rules.specs.Lists.{seek, any}
 use Rattle.rules.specs.Words.{Image, Mem, Store, mem, carry, wordValues}
 use Rattle.rules.specs.Pages.{rightLength}
@@ -20,13 +20,18 @@ use Rattle.rules.specs.Sound.{isValid, allValid}
 use Rattle.rules.specs.Answers.{Verdict, granted, refuse, test, ifSound, ifSettled, notPool, sizeZero, noRoom, noClump, wrongState, listFull, listEmpty, badTarget, storesOf, answerOf, totalsFor}
 use Rattle.rules.specs.Stores.{createStores, needOf, fits, reserveStores, listStores, withdrawStores, activateStores, freeStores, recoverStores}
 
--- reserve: 4 for size 0, 5 where "the scan stops" at no clump; the place is "the body's offset"
-abbrev pub placed : ℕ → Option Head → Verdict
-placed need none = refuse noRoom
-placed need (some h) = granted (bodyOf h) (reserveStores need h)
+-- reserve, in both forms (W5): 4 for size 0, 5 where "the scan stops" at no clump; the place is "the body's offset"
+abbrev pub placed : Bool → ℕ → Option Head → Verdict
+placed clears need none = refuse noRoom
+placed clears need (some h) = granted (bodyOf h) (reserveStores clears need h)
 
-unfoldable pub reserve : List Head → ℕ → Verdict
-reserve hs size = test (eqb size 0) sizeZero (placed (needOf size) (seek (fits (needOf size)) hs))
+unfoldable pub reserve : Bool → List Head → ℕ → Verdict
+reserve clears hs size = test (eqb size 0) sizeZero (placed clears (needOf size) (seek (fits (needOf size)) hs))
+
+-- the form that clears the body, and the one that "keeps the old rule"
+abbrev pub reserving : Bool → ℕ → Request
+reserving true size = Reserve size
+reserving false size = ReserveUncleared size
 
 -- the clump that has its body at an offset, and 6 where none has
 abbrev pub finder : List Head → ℕ → Option Head
@@ -83,7 +88,8 @@ free m hs offset h =
 -- now takes RESERVED too."
 unfoldable pub verdict : ℕ → Mem → Request → Verdict
 verdict n m Create = test (not (rightLength n)) notPool (granted 0 (createStores n))
-verdict n m (Reserve size) = ifSettled n m (reserve (walk n m) size)
+verdict n m (Reserve size) = ifSettled n m (reserve true (walk n m) size)
+verdict n m (ReserveUncleared size) = ifSettled n m (reserve false (walk n m) size)
 verdict n m (Onactive o t v) = let hs = walk n m in ifSettled n m (found (finder hs o) (enlist m hs (hasState RESERVED) o t t v))
 verdict n m (Onfree o t v) = let hs = walk n m in ifSettled n m (found (finder hs o) (enlist m hs isWaiting o t (withMark t) v))
 verdict n m (Withdraw o) = ifSettled n m (found (finder (walk n m) o) (withdraw m o))
@@ -96,6 +102,7 @@ verdict n m Recover = ifSound n m (granted 0 (recoverStores m (walk n m)))
 abbrev pub Numbers : Request → Type 0
 Numbers Create = Unit {0}
 Numbers (Reserve size) = size < wordValues
+Numbers (ReserveUncleared size) = size < wordValues
 Numbers (Onactive o t v) = (o < wordValues) × (t < wordValues) × (v < wordValues)
 Numbers (Onfree o t v) = (o < wordValues) × (t < wordValues) × (v < wordValues)
 Numbers (Withdraw o) = o < wordValues

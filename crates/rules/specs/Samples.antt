@@ -3,19 +3,19 @@
 -- 01 and 02 by hand. Assumes nothing.
 use Prim.Native.Nat.{ℕ}
 use mathlib.Core.Path.{_≡_, refl}
-use mathlib.Core.Bool.{true, false}
+use mathlib.Core.Bool.{Bool, true, false}
 use mathlib.Core.Option.{Option, some, none}
 use mathlib.Core.List.{List, [], _∷_, _++_, map}
 use lib.ListN.{replicate, getD}
 use Rattle.rules.specs.declared.Request.{Request}
 use Rattle.rules.specs.declared.Totals.{Totals}
-use Rattle.rules.specs.declared.Request.the-variants.{Create, Reserve, Onactive, Onfree, Withdraw, Activate, Free, Check, Recover}
+use Rattle.rules.specs.declared.Request.the-variants.{Create, Reserve, ReserveUncleared, Onactive, Onfree, Withdraw, Activate, Free, Check, Recover}
 use Rattle.rules.specs.Words.{store, put, mem}
 use Rattle.rules.specs.Pages.{signatureLow, signatureHigh, rightLength}
 use Rattle.rules.specs.Clumps.{walk}
 use Rattle.rules.specs.Sound.{isValid}
 use Rattle.rules.specs.Answers.{storesOf, totalsFor}
-use Rattle.rules.specs.Requests.{verdict, finding}
+use Rattle.rules.specs.Requests.{reserving, verdict, finding}
 use Rattle.rules.specs.Cases.{everyRule, Pool, poolOf, under, longest, answerIn, caseH, fresh}
 
 -- answer, place and fault of check
@@ -32,7 +32,7 @@ placeOf p q = answerIn longest p q .place
 
 -- each request but create, on the clump that has its body at o
 abbrev pub requestsOn : ℕ → List Request
-requestsOn o = Reserve 1 ∷ Onactive o 4096 1 ∷ Onfree o 4096 1 ∷ Withdraw o ∷ Activate o ∷ Free o ∷ Check ∷ Recover ∷ []
+requestsOn o = Reserve 1 ∷ ReserveUncleared 1 ∷ Onactive o 4096 1 ∷ Onfree o 4096 1 ∷ Withdraw o ∷ Activate o ∷ Free o ∷ Check ∷ Recover ∷ []
 
 -- check's totals
 abbrev pub totalled : Pool → Totals
@@ -54,10 +54,10 @@ between = poolOf ((128, 0) ∷ (128, 3) ∷ (128, 0) ∷ []) (store 16528 4096 �
 abbrev pub broken : Pool
 broken = poolOf ((128, 0) ∷ (128, 1) ∷ (128, 4) ∷ (128, 3) ∷ (128, 1) ∷ (128, 0) ∷ []) (store 16656 4096 ∷ store 16664 7 ∷ [])
 
--- answer, place and count of case C under a fuse
-abbrev pub fused : ℕ → ℕ × ℕ × ℕ
-fused k =
-    let r = answerIn k (poolOf ((1216, 0) ∷ []) []) (Reserve 1000) in
+-- answer, place and count of case C, in a form of reserve, under a fuse
+abbrev pub fused : Bool → ℕ → ℕ × ℕ × ℕ
+fused clears k =
+    let r = answerIn k (poolOf ((1216, 0) ∷ []) []) (reserving clears 1000) in
     (r .answer, r .place, r .stores)
 
 -- what a request says to flush, under a fuse
@@ -105,12 +105,13 @@ Samples =
     × (map (isValid (walk 16640 (listing 3 (0, 0, 0) .1))) (4088 ∷ 4096 ∷ 8184 ∷ 8192 ∷ 16440 ∷ 16448 ∷ 16452 ∷ 16504 ∷ 16512 ∷ 16576 ∷ [])
     ≡ false ∷ true ∷ true ∷ false ∷ false ∷ true ∷ false ∷ true ∷ false ∷ false ∷ [])
     -- answer 3: two FREE touch, or a clump is ACTIVATING, or FREEING; before 4, and never of check and recover
-    × (map (answered (poolOf ((128, 0) ∷ (128, 0) ∷ []) [])) (Reserve 0 ∷ requestsOn 16448) ≡ 3 ∷ 3 ∷ 3 ∷ 3 ∷ 3 ∷ 3 ∷ 3 ∷ 0 ∷ 0 ∷ [])
+    × (map (answered (poolOf ((128, 0) ∷ (128, 0) ∷ []) [])) (Reserve 0 ∷ ReserveUncleared 0 ∷ requestsOn 16448)
+    ≡ 3 ∷ 3 ∷ 3 ∷ 3 ∷ 3 ∷ 3 ∷ 3 ∷ 3 ∷ 3 ∷ 0 ∷ 0 ∷ [])
     × (map (λ s. map (answered (listing s (0, 0, 0))) (Reserve 1 ∷ Withdraw 16448 ∷ Free 16448 ∷ Check ∷ Recover ∷ [])) (2 ∷ 4 ∷ [])
     ≡ replicate 2 (3 ∷ 3 ∷ 3 ∷ 0 ∷ 0 ∷ []))
     -- answers 4, 6 and 7, with FREE 128 and ACTIVE 128
-    × (map (answered (poolOf ((128, 0) ∷ (128, 3) ∷ []) [])) (Reserve 0 ∷ Activate 16384 ∷ Activate 16448 ∷ Free 16448 ∷ Withdraw 16448 ∷ Activate 16576 ∷ Onactive 16576 4096 1 ∷ [])
-    ≡ 4 ∷ 6 ∷ 7 ∷ 7 ∷ 7 ∷ 7 ∷ 7 ∷ [])
+    × (map (answered (poolOf ((128, 0) ∷ (128, 3) ∷ []) [])) (Reserve 0 ∷ ReserveUncleared 0 ∷ Activate 16384 ∷ Activate 16448 ∷ Free 16448 ∷ Withdraw 16448 ∷ Activate 16576 ∷ Onactive 16576 4096 1 ∷ [])
+    ≡ 4 ∷ 4 ∷ 6 ∷ 7 ∷ 7 ∷ 7 ∷ 7 ∷ 7 ∷ [])
     -- answers 8, 9 and 10 on a RESERVED clump: its list full, then empty
     × (map (answered (listing 1 (4096, 4096, 4096))) (Onfree 16448 4096 1 ∷ Onactive 16448 8192 1 ∷ Withdraw 16448 ∷ []) ≡ 8 ∷ 8 ∷ 0 ∷ [])
     × (map (answered (listing 1 (0, 0, 0))) (Withdraw 16448 ∷ Onactive 16448 8192 1 ∷ Onactive 16448 16504 1 ∷ Free 16448 ∷ []) ≡ 9 ∷ 10 ∷ 0 ∷ 0 ∷ [])
@@ -146,9 +147,9 @@ Samples =
     ∷ (12288, 5497841045243514922)
     ∷ (0, 0)
     ∷ [])
-    × (listOf (poolOf ((1216, 0) ∷ []) []) (Reserve 1000)
+    × (listOf (poolOf ((1216, 0) ∷ []) []) (ReserveUncleared 1000)
     ≡ (17472, 128) ∷ (17480, 0) ∷ (16400, 0) ∷ (16416, 0) ∷ (16432, 0) ∷ (16384, 1088) ∷ (16392, 1) ∷ [])
-    × (listOf (poolOf ((1152, 0) ∷ []) []) (Reserve 1000) ≡ (16400, 0) ∷ (16416, 0) ∷ (16432, 0) ∷ (16392, 1) ∷ [])
+    × (listOf (poolOf ((1152, 0) ∷ []) []) (ReserveUncleared 1000) ≡ (16400, 0) ∷ (16416, 0) ∷ (16432, 0) ∷ (16392, 1) ∷ [])
     × (listOf (listing 1 (4096, 0, 0)) (Onactive 16448 8184 9) ≡ (16424, 9) ∷ (16416, 8184) ∷ [])
     × (listOf (listing 3 (4096, 4096, 0)) (Onfree 16448 16448 5) ≡ (16440, 5) ∷ (16432, 16449) ∷ [])
     × (listOf (listing 3 (4096, 4104, 0)) (Withdraw 16448) ≡ (16416, 0) ∷ [])
@@ -162,16 +163,16 @@ Samples =
     × (totalled (listing 2 (0, 0, 0)) ≡ record { free = 128; reserved = 0; activating = 128; active = 0; freeing = 0 })
     × (totalled (listing 3 (8, 0, 0)) ≡ record { free = 0; reserved = 0; activating = 0; active = 0; freeing = 0 })
     -- fuses of 0, one too few, and enough
-    × (map fused (0 ∷ 6 ∷ 7 ∷ 8 ∷ [])
-    ≡ (11, 0, 0) ∷ (11, 0, 6) ∷ (0, 16448, 7) ∷ (0, 16448, 7) ∷ [])
+    × (map (fused true) (0 ∷ 134 ∷ 135 ∷ 136 ∷ []) ≡ (11, 0, 0) ∷ (11, 0, 134) ∷ (0, 16448, 135) ∷ (0, 16448, 135) ∷ [])
+    × (map (fused false) (0 ∷ 6 ∷ 7 ∷ 8 ∷ []) ≡ (11, 0, 0) ∷ (11, 0, 6) ∷ (0, 16448, 7) ∷ (0, 16448, 7) ∷ [])
     -- W1, what to flush. Of create: cut before its first store and after it, after the static area, after the header page, before the
     -- last; finished
     × (map (λ k. flushed k (32768, λ o. o) Create) (0 ∷ 1 ∷ 513 ∷ 1024 ∷ 1032 ∷ 1033 ∷ [])
     ≡ (0, 0) ∷ (12288, 12296) ∷ (4096, 12296) ∷ (4096, 16384) ∷ (4096, 16448) ∷ (4096, 16448) ∷ [])
-    -- of reserve, splitting (the rest's state, at 17480, is the highest) and not: there the targets hold 0 already, and count
-    × (map (λ k. flushed k (poolOf ((1216, 0) ∷ []) []) (Reserve 1000)) (0 ∷ 1 ∷ 2 ∷ 5 ∷ 6 ∷ 7 ∷ [])
+    -- of reserve in its second form, splitting (the rest's state, at 17480, is the highest) and not: there the targets hold 0 already, and count
+    × (map (λ k. flushed k (poolOf ((1216, 0) ∷ []) []) (ReserveUncleared 1000)) (0 ∷ 1 ∷ 2 ∷ 5 ∷ 6 ∷ 7 ∷ [])
     ≡ (0, 0) ∷ (17472, 17480) ∷ (17472, 17488) ∷ (16400, 17488) ∷ (16384, 17488) ∷ (16384, 17488) ∷ [])
-    × (map (λ k. flushed k (poolOf ((1152, 0) ∷ []) []) (Reserve 1000)) (1 ∷ 3 ∷ 4 ∷ []) ≡ (16400, 16408) ∷ (16400, 16440) ∷ (16392, 16440) ∷ [])
+    × (map (λ k. flushed k (poolOf ((1152, 0) ∷ []) []) (ReserveUncleared 1000)) (1 ∷ 3 ∷ 4 ∷ []) ≡ (16400, 16408) ∷ (16400, 16440) ∷ (16392, 16440) ∷ [])
     -- of onactive, value first, and of withdraw
     × (map (λ k. flushed k (listing 1 (4096, 0, 0)) (Onactive 16448 8184 9)) (1 ∷ 2 ∷ []) ≡ (16424, 16432) ∷ (16416, 16432) ∷ [])
     × (flushed longest (listing 3 (4096, 4104, 0)) (Withdraw 16448) ≡ (16416, 16424))
@@ -195,4 +196,4 @@ Samples =
 
 samples : Samples
 unfolding everyRule
-samples = (refl, refl, refl, refl, refl, refl, refl, refl, refl, refl, refl, refl, refl, refl, refl, refl, refl, refl, refl, refl, refl, refl, refl, refl, refl, refl, refl, refl, refl, refl, refl, refl, refl, refl, refl, refl, refl, refl, refl, refl, refl, refl, refl, refl, refl, refl, refl, refl, refl, refl, refl)
+samples = (refl, refl, refl, refl, refl, refl, refl, refl, refl, refl, refl, refl, refl, refl, refl, refl, refl, refl, refl, refl, refl, refl, refl, refl, refl, refl, refl, refl, refl, refl, refl, refl, refl, refl, refl, refl, refl, refl, refl, refl, refl, refl, refl, refl, refl, refl, refl, refl, refl, refl, refl, refl)

@@ -1,4 +1,4 @@
--- The list of stores of each request (01, "Stores and the fuse"; 02, W4). A list reads the memory before the request alone.
+-- The list of stores of each request (01, "Stores and the fuse"; 02, W4 and W5). A list reads the memory before the request alone.
 -- Assumes nothing.
 use Prim.Native.Nat.{ℕ, _+_, _-_, _*_, _/_}
 use mathlib.Core.Bool.{Bool, cond, _&&_, _||_}
@@ -46,19 +46,29 @@ fits need h = isFree h && leb need (h .nbytes)
 abbrev pub leastRest : ℕ
 leastRest = 128
 
+-- W5: "Reserve stores 0 to every word of the body, upward"; "a second form of the request keeps the old rule" and clears none. So many
+-- words of a clump of size bytes it clears
+unfoldable pub clearedWords : Bool → ℕ → ℕ
+clearedWords clears size = cond clears ((size - headerBytes) / wordBytes) 0
+
+-- and these are its stores at the clump at a
+abbrev pub clearing : Bool → ℕ → ℕ → List Store
+clearing clears a size = zeros (a + headerBytes) (clearedWords clears size)
+
 -- "nbytes and state FREE of the rest's header; then 0 to the three targets of the chosen clump; nbytes = need; state RESERVED.
--- .. With a smaller rest the whole clump is used: targets, state"
-unfoldable pub reserveStores : ℕ → Head → List Store
-reserveStores need h =
+-- .. With a smaller rest the whole clump is used: targets, state". W5: the body is cleared "after the sizes are right and before the state
+-- becomes RESERVED"
+unfoldable pub reserveStores : Bool → ℕ → Head → List Store
+reserveStores clears need h =
     let a = h .at in
     let rest = h .nbytes - need in
     cond (leb leastRest rest)
     (store (a + need) rest
     ∷ store (stateAt (a + need)) FREE
-    ∷ (emptying (slots a) ++ (store a need ∷ setState h RESERVED ∷ [])))
-    (emptying (slots a) ++ (setState h RESERVED ∷ []))
+    ∷ (emptying (slots a) ++ (store a need ∷ (clearing clears a need ++ (setState h RESERVED ∷ [])))))
+    (emptying (slots a) ++ (clearing clears a (h .nbytes) ++ (setState h RESERVED ∷ [])))
 
--- "7 stores. With a smaller rest .. 4 stores."
+-- "7 stores. With a smaller rest .. 4 stores." W5: "The store counts of 01 grow by body bytes divided by 8", which `clearedWords` is
 abbrev pub splitCount : ℕ
 splitCount = 7
 

@@ -9,7 +9,7 @@ use mathlib.Core.List.{List}
 use lib.Dec.{ltb}
 use lib.ListN.{length, getD}
 use Rattle.rules.specs.declared.Request.{Request}
-use Rattle.rules.specs.declared.Request.the-variants.{Create, Reserve, Onactive, Onfree, Withdraw, Activate, Free, Check, Recover}
+use Rattle.rules.specs.declared.Request.the-variants.{Create, Reserve, ReserveUncleared, Onactive, Onfree, Withdraw, Activate, Free, Check, Recover}
 use Rattle.rules.specs.Words.{Image, Mem, Bytes, mem}
 use Rattle.rules.specs.Pages.{rightLength}
 use Rattle.rules.specs.Clumps.{Head, ACTIVE, hasState, unmarked, slotsBy}
@@ -32,6 +32,7 @@ pub data Recovering (img : Image) : Image → Type 0 where
 abbrev pub isCreate : Request → Bool
 isCreate Create = true
 isCreate (Reserve size) = false
+isCreate (ReserveUncleared size) = false
 isCreate (Onactive o t v) = false
 isCreate (Onfree o t v) = false
 isCreate (Withdraw o) = false
@@ -71,6 +72,7 @@ beforeTurn m (some h) = cond (hasState ACTIVE h) 0 (cond (hasMarked m h) (length
 abbrev pub isThrough : Mem → List Head → Request → ℕ → Bool
 isThrough m hs Create k = false
 isThrough m hs (Reserve size) k = false
+isThrough m hs (ReserveUncleared size) k = false
 isThrough m hs (Onactive o t v) k = false
 isThrough m hs (Onfree o t v) k = false
 isThrough m hs (Withdraw o) k = false

@@ -49,10 +49,13 @@ pub struct Totals {
     pub freeing: u64,
 }
 
-// The nine requests, each with the numbers asked. An offset is that of a body.
+// The ten requests, each with the numbers asked. An offset is that of a body.
 pub enum Request {
     Create,
     Reserve {
+        size: u64,
+    },
+    ReserveUncleared {
         size: u64,
     },
     Onactive {

@@ -34,6 +34,10 @@ past-5 : (c : tie.Else5) → Past (c .before .before .before .before .before .be
 unfolding commands codes
 past-5 c = past-4 (c .before .before .before) ∙ named-pass _ _ _ _ (sym (c .before .same5 .ensures) ∙ c .if5 .left)
 
+past-6 : (c : tie.Else6) → Past (c .before .before .before .before .before .before .before .before .before .before .before .before .before .before .before .before .before .before .before) 6
+unfolding commands codes
+past-6 c = past-5 (c .before .before .before) ∙ named-pass _ _ _ _ (sym (c .before .same6 .ensures) ∙ c .if6 .left)
+
 slice-aggregate-same : tie.Need-slice-aggregate-same
 slice-aggregate-same c = search needs
 
@@ -84,9 +88,19 @@ returns-5 : tie.Need-returns-5
 unfolding commands codes
 returns-5 c = sym (past-4 (c .before .before .before) ∙ named-hit _ _ _ _ (sym (c .before .same5 .ensures) ∙ c .if5 .taken))
 
+slice-aggregate-same-6 : tie.Need-slice-aggregate-same-6
+slice-aggregate-same-6 c = search needs
+
+same-requires-6 : tie.Need-same-requires-6
+same-requires-6 c κs = search needs
+
 returns-6 : tie.Need-returns-6
 unfolding commands codes
-returns-6 c = sym (past-5 c ∙ named-none _)
+returns-6 c = sym (past-5 (c .before .before .before) ∙ named-hit _ _ _ _ (sym (c .before .same6 .ensures) ∙ c .if6 .taken))
+
+returns-7 : tie.Need-returns-7
+unfolding commands codes
+returns-7 c = sym (past-6 c ∙ named-none _)
 
 pub with-one-spec : {M : Type 1} → statement M
 with-one-spec =
@@ -107,4 +121,7 @@ with-one-spec =
     slice-aggregate-same-5
     same-requires-5
     returns-5
-    returns-6)
+    slice-aggregate-same-6
+    same-requires-6
+    returns-6
+    returns-7)

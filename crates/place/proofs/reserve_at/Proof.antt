@@ -41,7 +41,7 @@ same-length : tie.Need-same-length
 same-length c = search needs
 
 returns : tie.Need-returns
-returns c = split-acts _ _ _ _ _ _ _ (c .before .before .before .before .before .before .new .ensures) (c .before .before .before .before .before .before .before .before .get .ensures) (c .before .before .before .before .before .before .before .need-of .ensures) (c .before .before .before .before .before .if1 .taken) (c .before .before .before .split-off .ensures) (c .finish .ensures)
+returns c = split-acts _ _ _ _ _ _ _ _ (c .before .before .before .before .before .before .new .ensures) (c .before .before .before .before .before .before .before .before .get .ensures) (c .before .before .before .before .before .before .before .need-of .ensures) (c .before .before .before .before .before .if1 .taken) (c .before .before .before .split-off .ensures) (c .finish .ensures)
 
 take-whole-requires : tie.Need-take-whole-requires
 take-whole-requires c κs = let e : c .before .before .before .before .get .result ≡ mem (c .before .before .before .before .before .before .before .args .img .now) (c .before .before .before .before .before .before .before .args .h) = c .before .before .before .before .get .ensures in
@@ -62,7 +62,7 @@ same-length-2 : tie.Need-same-length-2
 same-length-2 c = search needs
 
 returns-2 : tie.Need-returns-2
-returns-2 c = whole-acts _ _ _ _ _ _ _ (c .before .before .before .before .before .before .new .ensures) (c .before .before .before .before .before .before .before .before .get .ensures) (c .before .before .before .before .before .before .before .need-of .ensures) (c .before .before .before .before .before .if1 .left) (c .before .before .before .take-whole .ensures) (c .finish2 .ensures)
+returns-2 c = whole-acts _ _ _ _ _ _ _ _ (c .before .before .before .before .before .before .new .ensures) (c .before .before .before .before .before .before .before .before .get .ensures) (c .before .before .before .before .before .before .before .need-of .ensures) (c .before .before .before .before .before .if1 .left) (c .before .before .before .take-whole .ensures) (c .finish2 .ensures)
 
 pub reserve-at-spec : {M : Type 1} → statement M
 reserve-at-spec =

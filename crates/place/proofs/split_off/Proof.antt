@@ -26,17 +26,20 @@ empty-targets-requires c κs = search needs
 store-requires-3 : tie.Need-store-requires-3
 store-requires-3 c κs = search needs
 
-add-store-4 : tie.Need-add-store-4
-add-store-4 c = let a = c .before .before .before .before .before .before .before .before .before .before .before .before .before .before .before .before .before .before in search (needs, a .pre, a .fits)
-
-store-requires-4 : tie.Need-store-requires-4
-store-requires-4 c κs = omega (arith, c .before .before .before .before .before .before .before .before .before .before .before .before .before .before .before .store .ensures .long, c .before .before .before .before .before .before .before .before .before .before .before .store2 .ensures .long, c .before .before .before .before .before .before .before .empty-targets .ensures .long, c .before .before .before .store3 .ensures .long, c .before .before .before .before .before .before .before .before .before .before .before .before .before .before .before .store .ensures .sum, c .before .before .before .before .before .before .before .before .before .before .before .store2 .ensures .sum, c .before .before .before .before .before .before .before .empty-targets .ensures .sum, c .before .before .before .store3 .ensures .sum, c .before .before .before .before .before .before .before .before .before .before .before .before .before .before .before .before .before .before .pre)
+take-requires : tie.Need-take-requires
+take-requires c κs =
+    let i = c .before .before .before .before .before .before .before .before .before .before .before .before .before .before .before .before .before .before .pre in
+    let e1 = c .before .before .before .before .before .before .before .before .before .before .before .before .before .before .before .store .ensures in
+    let e2 = c .before .before .before .before .before .before .before .before .before .before .before .store2 .ensures in
+    let e3 = c .before .before .before .before .before .before .before .empty-targets .ensures in
+    let e4 = c .before .before .before .store3 .ensures in
+    (omega arith, (omega (arith, e1 .long, e2 .long, e3 .long, e4 .long), (omega arith, omega (arith, e1 .sum, e2 .sum, e3 .sum, e4 .sum))))
 
 same-length : tie.Need-same-length
 same-length c = search needs
 
 returns : tie.Need-returns
-returns c = ran-then (c .before .before .before .before .before .before .before .before .before .before .before .before .before .before .before .before .before .before .store .ensures) (ran-then (c .before .before .before .before .before .before .before .before .before .before .before .before .before .before .store2 .ensures) (ran-then (c .before .before .before .before .before .before .before .before .before .before .empty-targets .ensures) (ran-then (c .before .before .before .before .before .before .store3 .ensures) (c .before .before .store4 .ensures))))
+returns c = ran-then (c .before .before .before .before .before .before .before .before .before .before .before .before .before .before .before .before .before .before .store .ensures) (ran-then (c .before .before .before .before .before .before .before .before .before .before .before .before .before .before .store2 .ensures) (ran-then (c .before .before .before .before .before .before .before .before .before .before .empty-targets .ensures) (ran-then (c .before .before .before .before .before .before .store3 .ensures) (c .before .before .take .ensures))))
 
 pub split-off-spec : {M : Type 1} → statement M
 split-off-spec =
@@ -49,7 +52,6 @@ split-off-spec =
     store-requires-2
     empty-targets-requires
     store-requires-3
-    add-store-4
-    store-requires-4
+    take-requires
     same-length
     returns)

@@ -7,18 +7,14 @@ use Rattle.place.proofs.take_whole.Tie as tie
 empty-targets-requires : tie.Need-empty-targets-requires
 empty-targets-requires c κs = search needs
 
-add-store : tie.Need-add-store
-add-store c = search needs
-
-store-requires : tie.Need-store-requires
-store-requires c κs = search needs
+take-requires : tie.Need-take-requires
+take-requires c κs = search needs
 
 same-length : tie.Need-same-length
 same-length c = search needs
 
 returns : tie.Need-returns
-returns c = ran-then (c .before .before .before .before .before .before .empty-targets .ensures) (c .before .before .store .ensures)
+returns c = ran-then (c .before .before .before .before .before .before .empty-targets .ensures) (c .before .before .take .ensures)
 
 pub take-whole-spec : {M : Type 1} → statement M
-take-whole-spec =
-    tie.close (tie.spec empty-targets-requires add-store store-requires same-length returns)
+take-whole-spec = tie.close (tie.spec empty-targets-requires take-requires same-length returns)

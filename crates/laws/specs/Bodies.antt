@@ -17,6 +17,10 @@ use Rattle.rules.specs.Reading.{within, inPart}
 use Rattle.laws.specs.Searches.{differ, and-both, any-each}
 use Rattle.laws.specs.Tilings.{tiles-in}
 
+-- a byte within a range
+pub inside : (a b i : ℕ) → within a b i ≡ true → (a ≤ i) × (i < b)
+inside a b i w = let x = and-both (leb a i) _ w in (leb-true a i (x .0), ltb-true i b (x .1))
+
 -- the byte at i lies outside the header of h, and outside all of h if h is FREE
 pub record Off (i : ℕ) (h : Head) : Type 0 where
   pub header : (i < h .at) ⊎ (bodyOf h ≤ i)
@@ -63,11 +67,11 @@ off n i hs t e = go (within staticAt staticEnd i) refl e
     body-in : (h : Head) → (isLive h && within (bodyOf h) (endOf h) i) ≡ true → (isFree h ≡ false) × (bodyOf h ≤ i) × (i < endOf h)
     body-in h f =
         let x = and-both (isLive h) _ f in
-        let y = and-both (leb (bodyOf h) i) _ (x .1) in
-        (not-true _ (x .0), leb-true (bodyOf h) i (y .0), ltb-true i (endOf h) (y .1))
+        let y = inside (bodyOf h) (endOf h) i (x .1) in
+        (not-true _ (x .0), y .0, y .1)
 
     go : (c : Bool) → within staticAt staticEnd i ≡ c → (c || any (λ h. isLive h && within (bodyOf h) (endOf h) i) hs) ≡ true → Each (Off i) hs
-    go true q f = let x = ltb-true i staticEnd (and-both (leb staticAt i) _ q .1) in off-below clumpsAt n i hs t (omega arith)
+    go true q f = off-below clumpsAt n i hs t (omega (arith, inside staticAt staticEnd i q .1))
     go false q f = off-body i _ body-in clumpsAt n hs t f
 
 -- the first byte of a valid target

@@ -8,7 +8,7 @@ use mathlib.Core.List.{List, [], _∷_}
 use native.Mathlib.Omega.{arith}
 use lib.Dec.{ltb}
 use lib.ListN.{length, getD}
-use borrow.Author.Tests.{leb-true, ltb-true, le-ltb, not-true}
+use borrow.Author.Tests.{le-ltb, not-true}
 use Rattle.rules.specs.Lists.{any}
 use Rattle.rules.specs.Words.{Image, Mem, mem, wordBytes}
 use Rattle.rules.specs.Pages.{headerAt, clumpsAt}
@@ -16,8 +16,9 @@ use Rattle.rules.specs.Clumps.{Head, head, bodyOf, endOf, stateAt, headerBytes,
 use Rattle.rules.specs.Reading.{clumpsOf, within, inFreeList, inEmptyValue, hidden}
 use Rattle.rules.specs.Demands.{Alike, Independent}
 use Rattle.word.specs.Memory.{mem-same}
-use Rattle.laws.specs.Searches.{differ, and-both, none-any}
+use Rattle.laws.specs.Searches.{differ, none-any}
 use Rattle.laws.specs.Walks.{faultless}
+use Rattle.laws.specs.Bodies.{inside}
 use Rattle.laws.specs.Headers.{AgreePage, SameSlot, each-slot}
 use Rattle.laws.specs.Verdicts.{SameHeader, SameUpTo, verdict-same, totals-same}
 
@@ -26,7 +27,7 @@ pub not-within : (a b j : ℕ) → (a ≤ j → j < b → ⊥) → within a b j 
 not-within a b j f = go (within a b j) refl
   where
     go : (t : Bool) → within a b j ≡ t → t ≡ false
-    go true e = let r = and-both _ _ e in absurd (f (leb-true a j (r .0)) (ltb-true j b (r .1)))
+    go true e = let r = inside a b j e in absurd (f (r .0) (r .1))
     go false e = refl
 
 test-within : (t : Bool) (a b j : ℕ) → (t ≡ true → a ≤ j → j < b → ⊥) → (t && within a b j) ≡ false

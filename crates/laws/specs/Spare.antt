@@ -5,9 +5,7 @@ use mathlib.Core.Path.{_≡_, refl}
 use mathlib.Core.Bool.{Bool, true, false, _||_}
 use mathlib.Core.Logic.{_⊎_, inl, inr, ⊎-elim}
 use native.Mathlib.Omega.{arith}
-use lib.Dec.{leb}
 use lib.ListN.{length, take}
-use borrow.Author.Tests.{leb-true, ltb-true}
 use Rattle.rules.specs.declared.Request.{Request}
 use Rattle.rules.specs.Lists.{Each}
 use Rattle.rules.specs.Words.{Mem, Store, mem, wordBytes}
@@ -18,10 +16,10 @@ use Rattle.rules.specs.Answers.{storesOf}
 use Rattle.rules.specs.Requests.{Numbers, verdict, storesFor}
 use Rattle.rules.specs.Reading.{within, inSparePage}
 use Rattle.rules.specs.Demands.{NeverWritten}
-use Rattle.laws.specs.Searches.{and-both, all-each, each-map, each-take, map-each}
+use Rattle.laws.specs.Searches.{all-each, each-map, each-take, map-each}
 use Rattle.laws.specs.Tilings.{tiles-in}
 use Rattle.laws.specs.Pools.{Sound, right-length, pool-tiles}
-use Rattle.laws.specs.Bodies.{valid-area}
+use Rattle.laws.specs.Bodies.{inside, valid-area}
 use Rattle.laws.specs.Taking.{Takes}
 use Rattle.laws.specs.Founding.{create-each}
 use Rattle.laws.specs.Landing.{lands}
@@ -57,12 +55,10 @@ spare-miss i s e a = go (within 0 staticAt i) refl e
   where
     go : (b : Bool) → within 0 staticAt i ≡ b → (b || within staticEnd headerAt i) ≡ true → Miss i s
     go true q f =
-        let x = ltb-true i staticAt (and-both (leb 0 i) _ q .1) in
+        let x = inside 0 staticAt i q .1 in
         inl (⊎-elim (λ y. omega (arith, y .0)) (λ y. omega arith) a)
     go false q f =
-        let x = and-both (leb staticEnd i) _ f in
-        let l = leb-true staticEnd i (x .0) in
-        let u = ltb-true i headerAt (x .1) in
+        let x = inside staticEnd headerAt i f in
         ⊎-elim (λ y. inr (omega (arith, y .1))) (λ y. inl (omega arith)) a
 
 pub never-written : NeverWritten

@@ -7,10 +7,10 @@ use mathlib.Core.Bool.{Bool, true, false}
 use mathlib.Core.Option.{some}
 use mathlib.Core.List.{List, [], _∷_}
 use native.Mathlib.Omega.{arith}
-use lib.Dec.{leb, ltb}
+use lib.Dec.{ltb}
 use lib.ListN.{length, getD, take, length-append}
 use lib.Seq.{take-all, take-append-le}
-use borrow.Author.Tests.{leb-true, ltb-true, ltb-false, eqb-true}
+use borrow.Author.Tests.{ltb-true, ltb-false, eqb-true}
 use Rattle.rules.specs.declared.Request.{Request}
 use Rattle.rules.specs.declared.Request.the-variants.{Reserve, ReserveUncleared}
 use Rattle.rules.specs.Lists.{seek}
@@ -22,7 +22,8 @@ use Rattle.rules.specs.Requests.{finder, verdictOn, storesFor, cut, finished, a
 use Rattle.rules.specs.Reading.{clumpsOf, within}
 use Rattle.rules.specs.Demands.{Accepted, Cleared, NotCleared}
 use Rattle.word.specs.Blank.{blank-bytes}
-use Rattle.laws.specs.Searches.{and-both, each-take, seek-split}
+use Rattle.laws.specs.Searches.{each-take, seek-split}
+use Rattle.laws.specs.Bodies.{inside}
 use Rattle.laws.specs.Clearing.{cleared-whole}
 use Rattle.laws.specs.Walks.{Reads, walk-reads}
 use Rattle.laws.specs.Stored.{reads-right}
@@ -34,10 +35,6 @@ use Rattle.loss.specs.Redo.{Other, after-spared}
 use Rattle.loss.specs.Images.{cut-mem}
 use Rattle.loss.specs.Reserving.{Blank}
 use Rattle.loss.specs.Fresh.{lies, number, stores-are, memory-is, left, place-is, made, was-free}
-
--- within a body
-inside : (h : Head) (i : ℕ) → within (bodyOf h) (endOf h) i ≡ true → (bodyOf h ≤ i) × (i < endOf h)
-inside h i w = let x = and-both (leb (bodyOf h) i) _ w in (leb-true (bodyOf h) i (x .0), ltb-true i (endOf h) (x .1))
 
 -- a clump that is found has its state in the memory
 found-state : (m : Mem) (hs : List Head) (t : Head → Bool) (h : Head) → Reads m hs → seek t hs ≡ some h → m (stateAt (h .at)) ≡ h .state
@@ -60,7 +57,7 @@ module _ (img : Image) (size : ℕ) (b : Bytes img) (accepted : Accepted img (Re
       let x = left img true size all b g in
       let k = x .clump in
       let same : h ≡ k = (let e = made img true size all b g in cc) in
-      let t = inside k i (rw same at w) in
+      let t = inside (bodyOf k) (endOf k) i (rw same at w) in
       let blank : Blank (k .at) (k .nbytes) (mem (finished img q)) = subst (Blank (k .at) (k .nbytes)) (sym (memory-is img true size all b g)) (x .blank refl (mem img)) in
       let whole = cleared-whole (k .nbytes) (omega (arith, x .room, need-least size)) (omega (arith, x .whole)) in
       blank-bytes (clearedWords true (k .nbytes)) (bodyOf k) (finished img q) (omega (arith, x .place, lies img true size all b g .even)) blank i (t .0) (omega (arith, t .1, whole))
@@ -97,5 +94,5 @@ not-cleared img size fuse i h b d f w =
     let g = done-reserves img false size fuse d in
     let x = left img false size fuse b g in
     let same : h ≡ x .clump = (let e = made img false size fuse b g in cc) in
-    let t = inside (x .clump) i (rw same at w) in
+    let t = inside (bodyOf (x .clump)) (endOf (x .clump)) i (rw same at w) in
     carry-miss img (storesFor img (ReserveUncleared size)) i (rw (stores-are img false size fuse b g) (x .spared refl i (t .0) (t .1)))

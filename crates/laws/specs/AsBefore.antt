@@ -1,6 +1,7 @@
--- A pool that 01 calls sound is sound, and every request but onfree has the verdict on it that 01's rules gave. In such a pool every used
--- target of a live clump is divisible by 8, so that no entry is marked: the unmarked entries are the used ones, each target is its word, and
--- without a gap the entry behind the last used one is the first empty one. By cases on the states, and on the requests. Assumes nothing.
+-- A pool that 01 calls sound is sound, and every request but onfree and reserve has the verdict on it that 01's rules gave. In such a pool
+-- every used target of a live clump is divisible by 8, so that no entry is marked: the unmarked entries are the used ones, each target is
+-- its word, and without a gap the entry behind the last used one is the first empty one. By cases on the states, and on the requests.
+-- Assumes nothing.
 use Prim.Native.Nat.{ℕ, _%_}
 use mathlib.Core.Path.{_≡_, refl, sym, ap, ap₂, subst, _∙_}
 use mathlib.Core.Bool.{Bool, true, false, cond, not, _&&_, _||_}

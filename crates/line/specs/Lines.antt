@@ -67,8 +67,9 @@ unfoldable pub named : List ℕ → List (String × Line) → Line
 named name [] = Bad
 named name (e ∷ es) = elim (same name (codes (e .0))) [ true ↦ e .1 | false ↦ named name es ]
 
--- "Each input line is a request name (not create or check) and decimal numbers: size; or offset; or offset, target, value; recover
--- takes none." Besides there are `fuse k` and `walk`, and W5's "second form of the request". The names that take these numbers, each with its line:
+-- "Each input line is a request name (not create or check) and decimal numbers: size; or offset; or offset, target, value; recover takes
+-- none." Besides there are `fuse k` and `walk`, and W5's "second form of the request". The names that take these numbers, each with its
+-- line:
 unfoldable pub commands : List ℕ → List (String × Line)
 commands [] = ("recover", Ask Recover) ∷ ("walk", Walk) ∷ []
 commands (n ∷ []) =

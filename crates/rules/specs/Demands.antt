@@ -101,7 +101,8 @@ Fresh =
     × Each (λ k. isLive k ≡ true → Apart h k) (clumpsOf img)
 
 -- W5, of the first form: after a finished reserve every byte of the new body is 0; and in no image that a cut of it leaves is the new
--- clump RESERVED while a byte of its body is not 0, recovered or not ("a technician read an old valve position out of a fresh record")
+-- clump RESERVED while a byte of its body is not 0 ("A technician read an old valve position out of a fresh record", and reads images that
+-- nobody has recovered)
 abbrev pub Cleared : Type 0
 Cleared =
     (img : Image) (size fuse i : ℕ) (h : Head)
@@ -150,8 +151,9 @@ CountedReserve clears img size r =
     × (needOf size + leastRest ≤ h .nbytes → r .stores ≡ splitCount + clearedWords clears (needOf size))
     × (h .nbytes < needOf size + leastRest → r .stores ≡ wholeCount + clearedWords clears (h .nbytes))
 
--- How many stores a request makes that is done. Create: "1,033 stores." Reserve: as above. Onactive and onfree: "value, then target". Withdraw: "0 to the last used target". Activate: "With e entries
--- this makes 2 + 2e stores, 8 at most", of the unmarked entries (W4). Free: "At most 7 stores." Of recover no number is given.
+-- How many stores a request makes that is done. Create: "1,033 stores." Reserve: as above. Onactive and onfree: "value, then target".
+-- Withdraw: "0 to the last used target". Activate: "With e entries this makes 2 + 2e stores, 8 at most", of the unmarked entries (W4).
+-- Free: "At most 7 stores." Of recover no number is given.
 abbrev pub Counted : Image → Request → Answer → Type 0
 Counted img Create r = r .stores ≡ createCount
 Counted img (Reserve size) r = CountedReserve true img size r

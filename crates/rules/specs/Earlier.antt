@@ -1,6 +1,6 @@
--- 01's rules of the on-list as they stood before W4, kept for one comparison alone: modules in the field hold pools that were written by them.
--- Each is 01's sentence; what W4 leaves alone is taken from where it stands. Then the comparison, as a named statement; nothing is proved
--- here but a table of rows. Total on any n and m. Assumes nothing.
+-- 01's rules of the on-list as they stood before W4, kept for one comparison alone: modules in the field hold pools that were written by
+-- them. Each is 01's sentence; what W4 leaves alone is taken from where it stands. Then the comparison, as a named statement; nothing is
+-- proved here but a table of rows. Total on any n and m. Assumes nothing.
 use Prim.Native.Nat.{ℕ}
 use mathlib.Core.Path.{_≡_, refl}
 use mathlib.Core.Bool.{Bool, true, false, cond, not, _&&_, _||_}
@@ -93,6 +93,7 @@ abbrev pub finishing01 : Mem → Option Head → List Store
 finishing01 m none = []
 finishing01 m (some h) = cond (hasState ACTIVATING h) (finishActivating01 m h) (finishFreeing01 m h)
 
+-- What 01 calls reserve is what W5 calls its second form.
 unfoldable pub verdict01 : ℕ → Mem → Request → Verdict
 verdict01 n m Create = test (not (rightLength n)) notPool (granted 0 (createStores n))
 verdict01 n m (Reserve size) = ifSettled01 n m (reserve false (walk n m) size)
@@ -107,7 +108,8 @@ verdict01 n m Recover =
     let hs = walk n m in
     ifSound01 n m (granted 0 (finishing01 m (seek isPending hs) ++ (releasing hs ++ joining (runs (map released hs)))))
 
--- the requests that W4 leaves as they were on such a pool: each but onfree, which "always writes" the mark "and now takes RESERVED too"
+-- the requests that are as they were on such a pool: each but onfree, which "always writes" the mark "and now takes RESERVED too" (W4), and
+-- reserve, which "stores 0 to every word of the body"; its second form "keeps the old rule" (W5)
 abbrev pub isAsIn01 : Request → Bool
 isAsIn01 Create = true
 isAsIn01 (Reserve size) = false
@@ -121,7 +123,8 @@ isAsIn01 Check = true
 isAsIn01 Recover = true
 
 -- Modules in the field hold pools written before W4. On every image that 01 calls sound, gaps in an unfinished clump included, each request
--- but onfree has the verdict of 01's rules: so it gets their answer, place and count, and leaves their image, under any fuse.
+-- but onfree and reserve has the verdict of 01's rules, reserve_uncleared that of 01's reserve: so it gets their answer, place and count,
+-- and leaves their image, under any fuse.
 abbrev pub AsBefore : Type 0
 AsBefore =
     (img : Image) (q : Request)

@@ -22,10 +22,11 @@ mostFill = 255
 abbrev pub mostWords : ℕ
 mostWords = 120
 
--- the request of a number, up to the largest
+-- the largest number of a request
 abbrev pub mostRequest : ℕ
 mostRequest = 9
 
+-- the request of a number up to it
 unfoldable pub requestOf : ℕ → ℕ → ℕ → ℕ → Request
 requestOf q a b c =
     cond (eqb q 0) Create

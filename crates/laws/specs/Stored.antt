@@ -1,17 +1,19 @@
 -- What stores do to the headers that a memory holds: a store that misses every size and state word keeps them, a valid target misses
 -- them all, and a store of a state changes one clump. By induction on the clumps. Assumes nothing.
 use Prim.Native.Nat.{ℕ, _+_, _<_, _≤_}
-use mathlib.Core.Path.{_≡_, _∙_}
-use mathlib.Core.Bool.{true}
+use mathlib.Core.Path.{_≡_, subst, _∙_}
+use mathlib.Core.Bool.{Bool, true}
 use mathlib.Core.Logic.{⊎-elim}
+use mathlib.Core.Option.{some}
 use mathlib.Core.List.{List, [], _∷_, _++_}
 use native.Mathlib.Omega.{arith}
-use Rattle.rules.specs.Lists.{Each}
+use Rattle.rules.specs.Lists.{seek, Each}
 use Rattle.rules.specs.Words.{Mem, Store, upd, after}
 use Rattle.rules.specs.Pages.{clumpsAt}
 use Rattle.rules.specs.Clumps.{Head, stateAt, Tiles}
 use Rattle.rules.specs.Sound.{isValid}
 use Rattle.word.specs.Memory.{upd-same, upd-other}
+use Rattle.laws.specs.Searches.{seek-split}
 use Rattle.laws.specs.Tilings.{tiles-le, tiles-split}
 use Rattle.laws.specs.Walks.{Reads}
 use Rattle.laws.specs.Bodies.{Off, valid-off}
@@ -59,6 +61,10 @@ reads-left m (h ∷ p) q r = (r .0, r .1, reads-left m p q (r .2))
 pub reads-right : (m : Mem) (p q : List Head) → Reads m (p ++ q) → Reads m q
 reads-right m [] q r = r
 reads-right m (h ∷ p) q r = reads-right m p q (r .2)
+
+-- a clump that is found has its state in the memory
+pub found-state : (m : Mem) (hs : List Head) (t : Head → Bool) (h : Head) → Reads m hs → seek t hs ≡ some h → m (stateAt (h .at)) ≡ h .state
+found-state m hs t h r e = let x = seek-split t hs h e in reads-right m (x .lower) (h ∷ x .higher) (subst (Reads m) (x .whole) r) .1
 
 -- a store in the header of one clump, past its size and state
 pub clear-header : (a b i : ℕ) (p : List Head) (h : Head) (q : List Head) → Tiles a (p ++ (h ∷ q)) b → h .at + 16 ≤ i → i < h .at + h .nbytes → Clear i (p ++ (h ∷ q))

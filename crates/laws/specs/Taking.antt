@@ -13,7 +13,7 @@ use Rattle.rules.specs.Words.{Mem, Store, store, wordBytes, wordValues}
 use Rattle.rules.specs.Pages.{unit}
 use Rattle.rules.specs.Clumps.{Head, headerBytes, bodyOf, endOf, isFree, slots, valueAt, Choice, unmarked, slotsBy, entriesBy, stateAt, FREE, RESERVED, ACTIVE, FREEING}
 use Rattle.rules.specs.Answers.{storesOf, badTarget, bytesOf}
-use Rattle.rules.specs.Stores.{emptying, setState, leastRest, clearing, reserveStores, lastOf, finishActivating, finishFreeing, joinBefore, joinBoth, Run, joinRun, joining}
+use Rattle.rules.specs.Stores.{emptying, setState, leastRest, clearing, taking, reserveStores, lastOf, finishActivating, finishFreeing, joinBefore, joinBoth, Run, joinRun, joining}
 use Rattle.rules.specs.Requests.{listed, withdrawn}
 use Rattle.laws.specs.Searches.{those-each, each-append, each-map, map-each, last-each}
 use Rattle.laws.specs.Behind.{behind-test}
@@ -67,7 +67,7 @@ module _ (P : Store → Type 0) (N : Type 0) (n : ℕ) where
       emptied = emptying-lands h t (slots (h .at)) (slots-in n h (t .0))
 
       -- the body of the first so many bytes, and the state
-      taken : (size : ℕ) → headerBytes ≤ size → size ≤ h .nbytes → Each P (clearing clears (h .at) size ++ (setState h RESERVED ∷ []))
+      taken : (size : ℕ) → headerBytes ≤ size → size ≤ h .nbytes → Each P (taking clears (h .at) size)
       taken size b u =
           let v = t .0 .even in
           each-append P (clearing clears (h .at) size) (setState h RESERVED ∷ [])
@@ -81,8 +81,8 @@ module _ (P : Store → Type 0) (N : Type 0) (n : ℕ) where
           (cond b
           (store (h .at + need) (h .nbytes - need)
           ∷ store (stateAt (h .at + need)) FREE
-          ∷ (emptying (slots (h .at)) ++ (store (h .at) need ∷ (clearing clears (h .at) need ++ (setState h RESERVED ∷ [])))))
-          (emptying (slots (h .at)) ++ (clearing clears (h .at) (h .nbytes) ++ (setState h RESERVED ∷ []))))
+          ∷ (emptying (slots (h .at)) ++ (store (h .at) need ∷ taking clears (h .at) need)))
+          (emptying (slots (h .at)) ++ taking clears (h .at) (h .nbytes)))
       go true q =
           let k = leb-true leastRest (h .nbytes - need) q in
           let v = t .0 .even in
@@ -91,12 +91,12 @@ module _ (P : Store → Type 0) (N : Type 0) (n : ℕ) where
             t .1 .whole f _ _ (omega arith) (omega arith) (omega arith) (λ z. omega arith),
             (
               t .1 .whole f _ _ (omega arith) (omega arith) (omega arith) (λ z. omega arith),
-              each-append P (emptying (slots (h .at))) (store (h .at) need ∷ (clearing clears (h .at) need ++ (setState h RESERVED ∷ []))) emptied
+              each-append P (emptying (slots (h .at))) (store (h .at) need ∷ taking clears (h .at) need) emptied
                   (size-lands h t need (omega arith), taken need g l),
             ),
           )
       go false q =
-          each-append P (emptying (slots (h .at))) (clearing clears (h .at) (h .nbytes) ++ (setState h RESERVED ∷ [])) emptied
+          each-append P (emptying (slots (h .at))) (taking clears (h .at) (h .nbytes)) emptied
           (taken (h .nbytes) (omega arith) (omega arith))
 
   -- a new entry, and the last one emptied

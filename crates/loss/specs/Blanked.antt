@@ -1,16 +1,16 @@
--- What a list of stores leaves at a word: the last store there wins, and a run of zeros leaves 0 in each of its words. By induction
--- on the stores. Assumes nothing.
+-- What a list of stores leaves at a word: the last store there wins, a word that only the last store goes to is what it was until then, and a
+-- run of zeros leaves 0 in each of its words. By induction on the stores. Assumes nothing.
 use Prim.Native.Nat.{ℕ, zero, suc, _+_, _*_, _<_, _≤_}
 use mathlib.Core.Path.{_≡_, refl, sym, _∙_}
 use mathlib.Core.Bool.{true}
 use mathlib.Core.Logic.{_⊎_, inl, inr, ⊎-elim}
-use mathlib.Core.List.{List, _∷_, _++_}
+use mathlib.Core.List.{List, [], _∷_, _++_}
 use native.Mathlib.Omega.{arith}
 use lib.ListN.{length, take, replicate, length-replicate, getD-replicate}
 use lib.Seq.{slice, length-slice, ext-getD, getD-drop, getD-take}
 use borrow.Author.Tests.{eq-eqb}
 use Rattle.rules.specs.Words.{Image, Mem, Store, upd, after, zeros, allZero, wordBytes}
-use Rattle.word.specs.Memory.{upd-same, after-append}
+use Rattle.word.specs.Memory.{upd-same, upd-other, after-append}
 use Rattle.word.specs.Blank.{ZeroBytes}
 use Rattle.laws.specs.Searches.{each-append}
 use Rattle.loss.specs.Redo.{Other, Spares, after-spared}
@@ -30,6 +30,22 @@ leaves-last s st e m = after-spared (upd m (s .to) (s .word)) st (s .to) e ∙ u
 -- whatever the stores before
 pub leaves-behind : (P : Mem → Type 0) (p q : List Store) → Leaves P q → Leaves P (p ++ q)
 leaves-behind P p q f m = rw (after-append m p q) (f (after m p))
+
+-- cut before its last store, a list leaves the word at o what it was
+abbrev pub Late : ℕ → List Store → Type 0
+Late o st = (m : Mem) (j : ℕ) → j < length st → after m (take j st) o ≡ m o
+
+pub late-one : (o : ℕ) (s : Store) → Late o (s ∷ [])
+unfolding after
+late-one o s m zero l = refl
+late-one o s m (suc j) l = absurd (omega arith)
+
+pub late-behind : (o : ℕ) (p q : List Store) → Spares o p → Late o q → Late o (p ++ q)
+unfolding after
+late-behind o [] q e f m j l = f m j l
+late-behind o (s ∷ p) q e f m zero l = refl
+late-behind o (s ∷ p) q e f m (suc j) l =
+    late-behind o p q (e .1) f (upd m (s .to) (s .word)) j (omega arith) ∙ upd-other m (s .to) (s .word) o (e .0)
 
 -- a run of zeros: none of its stores goes outside
 pub zeros-other : (o i k : ℕ) → (o < i) ⊎ (i + wordBytes * k ≤ o) → Spares o (zeros i k)

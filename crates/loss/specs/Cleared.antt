@@ -1,44 +1,101 @@
 -- The body that reserve leaves, byte by byte. In the first form it is zeros, since each of its words is stored last as 0; and until the last
--- store the clump is not RESERVED, since none before it goes to the state. In the second form no store reaches the body. By what reserve's
--- stores come to. Assumes nothing.
-use Prim.Native.Nat.{ℕ, _<_, _≤_}
+-- store the clump is not RESERVED, since none before it goes to the state. In the second form no store reaches the body. By how reserve's
+-- list ends, and what its stores come to. Assumes nothing.
+use Prim.Native.Nat.{ℕ, _+_, _-_, _<_, _≤_}
 use mathlib.Core.Path.{_≡_, refl, sym, ap, subst, _∙_}
-use mathlib.Core.Bool.{Bool, true, false}
+use mathlib.Core.Bool.{Bool, true, false, cond}
+use mathlib.Core.Logic.{inl, inr}
 use mathlib.Core.Option.{some}
-use mathlib.Core.List.{List, [], _∷_}
+use mathlib.Core.List.{List, [], _∷_, _++_}
 use native.Mathlib.Omega.{arith}
 use lib.Dec.{ltb}
-use lib.ListN.{length, getD, take, length-append}
-use lib.Seq.{take-all, take-append-le}
+use lib.ListN.{length, getD, take}
+use lib.Seq.{take-all}
 use borrow.Author.Tests.{ltb-true, ltb-false, eqb-true}
 use Rattle.rules.specs.declared.Request.{Request}
 use Rattle.rules.specs.declared.Request.the-variants.{Reserve, ReserveUncleared}
-use Rattle.rules.specs.Lists.{seek}
-use Rattle.rules.specs.Words.{Image, Mem, Store, Bytes, mem, after, carry}
-use Rattle.rules.specs.Clumps.{Head, bodyOf, endOf, stateAt, FREE, RESERVED}
+use Rattle.rules.specs.Lists.{Each}
+use Rattle.rules.specs.Words.{Image, Store, store, Bytes, mem, after, carry}
+use Rattle.rules.specs.Clumps.{Head, bodyOf, endOf, stateAt, slots, leastClump, FREE, RESERVED}
 use Rattle.rules.specs.Answers.{done}
-use Rattle.rules.specs.Stores.{setState, clearedWords}
+use Rattle.rules.specs.Stores.{emptying, needOf, clearedWords, reserveStores}
 use Rattle.rules.specs.Requests.{finder, verdictOn, storesFor, cut, finished, answerOn}
 use Rattle.rules.specs.Reading.{clumpsOf, within}
 use Rattle.rules.specs.Demands.{Accepted, Cleared, NotCleared}
 use Rattle.word.specs.Blank.{blank-bytes}
-use Rattle.laws.specs.Searches.{each-take, seek-split}
+use Rattle.laws.specs.Searches.{seek-split, each-append}
 use Rattle.laws.specs.Bodies.{inside}
 use Rattle.laws.specs.Clearing.{cleared-whole}
-use Rattle.laws.specs.Walks.{Reads, walk-reads}
-use Rattle.laws.specs.Stored.{reads-right}
+use Rattle.laws.specs.Walks.{walk-reads}
+use Rattle.laws.specs.Stored.{found-state}
 use Rattle.laws.specs.Granted.{Reserves, Granted, done-reserves}
-use Rattle.laws.specs.Needs.{need-least}
+use Rattle.laws.specs.Needs.{need-least, need-clump}
 use Rattle.laws.specs.Served.{fuses}
-use Rattle.laws.specs.Named.{carry-miss}
-use Rattle.loss.specs.Redo.{Other, after-spared}
+use Rattle.laws.specs.Named.{Miss, carry-miss}
+use Rattle.loss.specs.Orders.{reserveOrder, endOrder}
+use Rattle.loss.specs.Redo.{Spares}
+use Rattle.loss.specs.Blanked.{Leaves, leaves-behind, Late, late-behind}
 use Rattle.loss.specs.Images.{cut-mem}
-use Rattle.loss.specs.Reserving.{Blank}
+use Rattle.loss.specs.Ending.{splitting, partOf, Blank, end-late, end-blank, end-spared}
 use Rattle.loss.specs.Fresh.{lies, number, stores-are, memory-is, left, place-is, made, was-free}
 
--- a clump that is found has its state in the memory
-found-state : (m : Mem) (hs : List Head) (t : Head → Bool) (h : Head) → Reads m hs → seek t hs ≡ some h → m (stateAt (h .at)) ≡ h .state
-found-state m hs t h r e = let x = seek-split t hs h e in reads-right m (x .lower) (h ∷ x .higher) (subst (Reads m) (x .whole) r) .1
+-- the sizes, which come first
+abbrev sizingBy : Bool → ℕ → Head → List Store
+sizingBy b need h =
+    let a = h .at in
+    cond b
+    (store (a + need) (h .nbytes - need) ∷ store (stateAt (a + need)) FREE ∷ (emptying (slots a) ++ (store a need ∷ [])))
+    (emptying (slots a))
+
+abbrev sizing : ℕ → Head → List Store
+sizing need h = sizingBy (splitting need h) need h
+
+-- "after the sizes are right"
+order-is : (clears : Bool) (need : ℕ) (h : Head) → reserveOrder clears need h ≡ sizing need h ++ endOrder clears (h .at) (partOf need h)
+unfolding reserveOrder reserveStores endOrder
+order-is clears need h = go (splitting need h)
+  where
+    go :
+        (b : Bool)
+        → cond b
+        (store (h .at + need) (h .nbytes - need)
+        ∷ store (stateAt (h .at + need)) FREE
+        ∷ (emptying (slots (h .at)) ++ (store (h .at) need ∷ endOrder clears (h .at) need)))
+        (emptying (slots (h .at)) ++ endOrder clears (h .at) (h .nbytes))
+        ≡ sizingBy b need h ++ endOrder clears (h .at) (cond b need (h .nbytes))
+    go true = refl
+    go false = refl
+
+-- of a need that is a clump's: the sizes are no stores to the state, nor to the body
+module _ (need : ℕ) (h : Head) (l : leastClump ≤ need) where
+  sizing-other : Spares (stateAt (h .at)) (sizing need h)
+  sizing-other = go (splitting need h)
+    where
+      go : (b : Bool) → Spares (stateAt (h .at)) (sizingBy b need h)
+      go true = (omega arith, (omega arith, (omega arith, (omega arith, (omega arith, (omega arith, tt))))))
+      go false = (omega arith, (omega arith, (omega arith, tt)))
+
+  sizing-miss : (i : ℕ) → bodyOf h ≤ i → i < h .at + partOf need h → Each (Miss i) (sizing need h)
+  sizing-miss i k = go (splitting need h)
+    where
+      go : (b : Bool) → i < h .at + cond b need (h .nbytes) → Each (Miss i) (sizingBy b need h)
+      go true u = (inl u, (inl (omega arith), (inr (omega arith), (inr (omega arith), (inr (omega arith), (inr (omega arith), tt))))))
+      go false u = (inr (omega arith), (inr (omega arith), (inr (omega arith), tt)))
+
+  order-late : (clears : Bool) → Late (stateAt (h .at)) (reserveOrder clears need h)
+  order-late clears =
+      rw (order-is clears need h)
+      (late-behind (stateAt (h .at)) (sizing need h) (endOrder clears (h .at) (partOf need h)) sizing-other (end-late (h .at) (partOf need h) clears))
+
+  order-blank : Leaves (Blank (h .at) (partOf need h)) (reserveOrder true need h)
+  order-blank =
+      rw (order-is true need h)
+      (leaves-behind (Blank (h .at) (partOf need h)) (sizing need h) (endOrder true (h .at) (partOf need h)) (end-blank (h .at) (partOf need h)))
+
+  order-spared : (i : ℕ) → bodyOf h ≤ i → i < h .at + partOf need h → Each (Miss i) (reserveOrder false need h)
+  order-spared i k u =
+      rw (order-is false need h)
+      (each-append (Miss i) (sizing need h) (endOrder false (h .at) (partOf need h)) (sizing-miss i k u) (end-spared (h .at) (partOf need h) i k))
 
 -- a reserve of the first form that is accepted
 module _ (img : Image) (size : ℕ) (b : Bytes img) (accepted : Accepted img (Reserve size)) where
@@ -58,22 +115,20 @@ module _ (img : Image) (size : ℕ) (b : Bytes img) (accepted : Accepted img (Re
       let k = x .clump in
       let same : h ≡ k = (let e = made img true size all b g in cc) in
       let t = inside (bodyOf k) (endOf k) i (rw same at w) in
-      let blank : Blank (k .at) (k .nbytes) (mem (finished img q)) = subst (Blank (k .at) (k .nbytes)) (sym (memory-is img true size all b g)) (x .blank refl (mem img)) in
+      let blank : Blank (k .at) (k .nbytes) (mem (finished img q)) = subst (Blank (k .at) (k .nbytes)) (sym (memory-is img true size all b g)) (rw (x .place, x .size) (order-blank (needOf size) (g .grants .clump) (need-clump size (g .grants .asked)) (mem img))) in
       let whole = cleared-whole (k .nbytes) (omega (arith, x .room, need-least size)) (omega (arith, x .whole)) in
       blank-bytes (clearedWords true (k .nbytes)) (bodyOf k) (finished img q) (omega (arith, x .place, lies img true size all b g .even)) blank i (t .0) (omega (arith, t .1, whole))
 
   -- cut before the last store, the clump is FREE still
   still-free : (j : ℕ) (h : Head) → j < all → finder (clumpsOf (cut img q j)) (answerOn img q all .place) ≡ some h → h .state ≡ FREE
   still-free j h l f =
-      let x = left img true size all b g in
       let k = g .grants .clump in
+      let st = stores-are img true size all b g in
       let e : bodyOf h ≡ bodyOf k = eqb-true (bodyOf h) (answerOn img q all .place) (seek-split _ (clumpsOf (cut img q j)) h f .passes) ∙ place-is img true size all b g in
       let at : h .at ≡ k .at = omega arith in
-      let s = stores-are img true size all b g ∙ x .last in
-      let short : j ≤ length (x .before) = omega (arith, ap length s, length-append (x .before) (setState k RESERVED ∷ [])) in
-      let m : mem (cut img q j) ≡ after (mem img) (take j (x .before)) = cut-mem img q j b (number img true size all b g) ∙ ap (λ (st : List Store). after (mem img) (take j st)) s ∙ ap (after (mem img)) (take-append-le j (x .before) _ short) in
+      let m : mem (cut img q j) ≡ after (mem img) (take j (reserveOrder true (needOf size) k)) = cut-mem img q j b (number img true size all b g) ∙ ap (λ (l : List Store). after (mem img) (take j l)) st in
       sym (found-state (mem (cut img q j)) (clumpsOf (cut img q j)) _ h (walk-reads _ _) f)
-      ∙ rw (m, at) (after-spared (mem img) (take j (x .before)) (stateAt (k .at)) (each-take (Other (stateAt (k .at))) j (x .before) (x .waits)))
+      ∙ rw (m, at) (order-late (needOf size) k (need-clump size (g .grants .asked)) true (mem img) j (omega (arith, ap length st)))
       ∙ found-state (mem img) (clumpsOf img) _ k (walk-reads _ _) (g .grants .found)
       ∙ was-free img true size all b g
 
@@ -95,4 +150,4 @@ not-cleared img size fuse i h b d f w =
     let x = left img false size fuse b g in
     let same : h ≡ x .clump = (let e = made img false size fuse b g in cc) in
     let t = inside (bodyOf (x .clump)) (endOf (x .clump)) i (rw same at w) in
-    carry-miss img (storesFor img (ReserveUncleared size)) i (rw (stores-are img false size fuse b g) (x .spared refl i (t .0) (t .1)))
+    carry-miss img (storesFor img (ReserveUncleared size)) i (rw (stores-are img false size fuse b g) (order-spared (needOf size) (g .grants .clump) (need-clump size (g .grants .asked)) i (omega (arith, t .0, x .place)) (omega (arith, t .1, x .place, x .size))))

@@ -7,7 +7,6 @@ use mathlib.Core.Logic.{inl, inr}
 use mathlib.Core.List.{List, [], _∷_, _++_, append-assoc}
 use native.Mathlib.Omega.{arith}
 use lib.ListN.{length, take, length-append}
-use lib.Seq.{take-append-le}
 use borrow.Author.Tests.{eq-eqb, ne-eqb}
 use Rattle.rules.specs.declared.Request.the-variants.{Create}
 use Rattle.rules.specs.Lists.{any}
@@ -26,8 +25,8 @@ use Rattle.laws.specs.Founding.{create-length}
 use Rattle.laws.specs.Pools.{right-length}
 use Rattle.loss.specs.Entries.{unjudged}
 use Rattle.loss.specs.Held.{Held, held-walk, idle-sound}
-use Rattle.loss.specs.Redo.{Other, Spares, after-spared}
-use Rattle.loss.specs.Blanked.{Leaves, At, leaves-last, leaves-behind, zeros-other, zeros-first, zeros-blank, zero-slice}
+use Rattle.loss.specs.Redo.{Other, Spares}
+use Rattle.loss.specs.Blanked.{Leaves, At, leaves-last, leaves-behind, late-one, late-behind, zeros-other, zeros-first, zeros-blank, zero-slice}
 
 -- the stores of a create on n bytes from the clump's state on, from its nbytes on, from the padding on, from the page on and from the
 -- static area on; e is what comes last
@@ -98,8 +97,9 @@ cut-low : (n k : ℕ) (m : Mem) → 0 < k → k < createCount → after m (take 
 unfolding after createStores
 cut-low n zero m p l = absurd (omega arith)
 cut-low n (suc k) m p l =
-    rw (blanking-seals n sealing, take-append-le k (blanking n []) sealing (omega (arith, blanking-length n)))
-    (after-spared (upd m headerAt 0) (take k (blanking n [])) headerAt (each-take (Other headerAt) k (blanking n []) (blanking-other n)) ∙ upd-same m headerAt 0)
+    rw (blanking-seals n sealing)
+    (late-behind headerAt (blanking n []) sealing (blanking-other n) (late-one headerAt (store headerAt signatureLow)) (upd m headerAt 0) k (omega (arith, blanking-length n, length-append (blanking n []) sealing))
+    ∙ upd-same m headerAt 0)
 
 -- "Cut after 1 to 1,032, the image is no pool"
 pub create-cut : CreateCut

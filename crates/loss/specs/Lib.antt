@@ -23,6 +23,7 @@ pub mod Slices
 pub mod Readings
 -- Each request at every cut.
 pub mod Recovering
+pub mod Ending
 pub mod Reserving
 pub mod Freeing
 pub mod Entries

@@ -1,6 +1,6 @@
 -- Reserve in either form, cut after any store: what it stores lies in one FREE clump, which recovery does not keep. The rest's header, the
--- emptied targets and the cleared body are words that nobody reads; the smaller nbytes splits the clump in two; the state comes last. The
--- body that it leaves is zeros in the first form, and no store reaches it in the second. Assumes nothing.
+-- emptied targets and the cleared body are words that nobody reads; the smaller nbytes splits the clump in two; the state comes last.
+-- Assumes nothing.
 use Prim.Native.Nat.{ℕ, zero, suc, _+_, _-_, _*_, _%_, _<_, _≤_}
 use mathlib.Core.Path.{_≡_, refl, sym, _∙_}
 use mathlib.Core.Bool.{Bool, true, false}
@@ -9,31 +9,26 @@ use mathlib.Core.List.{List, [], _∷_, _++_}
 use native.Mathlib.Omega.{arith}
 use lib.Dec.{leb}
 use borrow.Author.Tests.{eqb-true, leb-true}
-use Rattle.rules.specs.Lists.{Each}
-use Rattle.rules.specs.Words.{Mem, Store, store, upd, after, zeros, allZero, wordBytes}
+use Rattle.rules.specs.Words.{Mem, Store, store, upd, after, zeros, wordBytes}
 use Rattle.rules.specs.Pages.{unit}
-use Rattle.rules.specs.Clumps.{Head, headerBytes, bodyOf, endOf, stateAt, isFree, slots, leastClump, FREE, RESERVED}
+use Rattle.rules.specs.Clumps.{Head, headerBytes, endOf, stateAt, isFree, slots, leastClump, FREE, RESERVED}
 use Rattle.rules.specs.Sound.{touching}
-use Rattle.rules.specs.Stores.{emptying, setState, leastRest, clearedWords, clearing, reserveStores}
+use Rattle.rules.specs.Stores.{emptying, leastRest, clearedWords, reserveStores}
 use Rattle.word.specs.Memory.{upd-same, upd-other}
-use Rattle.laws.specs.Searches.{differ, each-right}
+use Rattle.laws.specs.Searches.{each-right}
 use Rattle.laws.specs.Stored.{withState, reads-right}
-use Rattle.laws.specs.Named.{Miss}
 use Rattle.laws.specs.Clearing.{cleared-room}
-use Rattle.loss.specs.Orders.{reserveOrder}
+use Rattle.loss.specs.Orders.{reserveOrder, endOrder}
+use Rattle.loss.specs.Ending.{partOf}
 use Rattle.loss.specs.Fates.{Kept, fates-none, Beyond, Rests}
 use Rattle.loss.specs.Parts.{one-store, parted-one, replaced}
-use Rattle.loss.specs.Redo.{Spares, after-spared}
-use Rattle.loss.specs.Blanked.{Leaves, leaves-behind, zeros-other, zeros-blank}
+use Rattle.loss.specs.Redo.{after-spared}
+use Rattle.loss.specs.Blanked.{zeros-other}
 use Rattle.loss.specs.Entries.{unjudged, Bare, bare-good, bare-front}
 use Rattle.loss.specs.Turning.{state-rests}
 use Rattle.loss.specs.Merging.{free-loose}
 use Rattle.loss.specs.Calm.{touching-taken, touching-split}
 use Rattle.loss.specs.Recovering.{Comes, comes-none, comes-store}
-
--- every word of the body is 0, of a clump of size bytes at a
-abbrev pub Blank : ℕ → ℕ → Mem → Type 0
-Blank a size x = allZero x (a + headerBytes) (clearedWords true size) ≡ true
 
 -- what reserve leaves of the FREE clump h, between p and q
 pub record Reserved (clears : Bool) (n : ℕ) (D : ℕ → Type 0) (k : List Kept) (w m : Mem) (p : List Head) (h : Head) (q : List Head) (need : ℕ) : Type 0 where
@@ -42,29 +37,11 @@ pub record Reserved (clears : Bool) (n : ℕ) (D : ℕ → Type 0) (k : List Kep
   pub place : clump .at ≡ h .at
   pub room : need ≤ clump .nbytes
   pub less : clump .nbytes ≤ h .nbytes
+  pub size : clump .nbytes ≡ partOf need h
   pub whole : clump .nbytes % unit ≡ 0
   pub state : clump .state ≡ RESERVED
   pub comes : Comes n D k w m (reserveOrder clears need h) (p ++ (clump ∷ above))
   pub calm : touching (p ++ (h ∷ q)) ≡ false → touching (p ++ (clump ∷ above)) ≡ false
-  pub before : List Store
-  pub last : reserveOrder clears need h ≡ before ++ (setState h RESERVED ∷ [])
-  pub waits : Spares (stateAt (h .at)) before
-  pub blank : clears ≡ true → Leaves (Blank (clump .at) (clump .nbytes)) (reserveOrder clears need h)
-  pub spared : clears ≡ false → (i : ℕ) → bodyOf clump ≤ i → i < endOf clump → Each (Miss i) (reserveOrder clears need h)
-
--- the stores that end it, at a clump of size bytes at a, from the body on
-abbrev ending : Bool → ℕ → ℕ → List Store
-ending clears a size = clearing clears a size ++ (store (stateAt a) RESERVED ∷ [])
-
--- the body that they leave, in either form
-ending-blank : (clears : Bool) (a size : ℕ) → clears ≡ true → Leaves (Blank a size) (ending clears a size)
-ending-blank true a size e = zeros-blank (clearedWords true size) (a + headerBytes) (store (stateAt a) RESERVED ∷ []) (λ o l u. (omega arith, tt))
-ending-blank false a size e = differ e refl
-
-ending-spared : (clears : Bool) (a size i : ℕ) → clears ≡ false → a + headerBytes ≤ i → Each (Miss i) (ending clears a size)
-unfolding clearedWords zeros
-ending-spared true a size i e l = differ refl e
-ending-spared false a size i e l = (inr (omega arith), tt)
 
 -- a FREE clump h, which no place of D lies in
 module _ (n : ℕ) (D : ℕ → Type 0) (k : List Kept) (w : Mem) (p : List Head) (h : Head) (q : List Head) (free : isFree h ≡ true) (clear : (o : ℕ) → D o → (o < h .at) ⊎ (endOf h ≤ o)) where
@@ -113,7 +90,8 @@ module _ (n : ℕ) (D : ℕ → Type 0) (k : List Kept) (w : Mem) (p : List Head
       comes-store n D k w m _ _ gs hs f (comes-store n D k w _ _ _ gs hs f1 (comes-store n D k w _ _ st gs hs f2 (go f3)))
 
   -- the body of a clump without entries, and the state, last
-  taken : (clears : Bool) (m : Mem) → Bare m a → Rests n D k w m (p ++ (h ∷ q)) → Comes n D k w m (ending clears a (h .nbytes)) (p ++ (withState h RESERVED ∷ q))
+  taken : (clears : Bool) (m : Mem) → Bare m a → Rests n D k w m (p ++ (h ∷ q)) → Comes n D k w m (endOrder clears a (h .nbytes)) (p ++ (withState h RESERVED ∷ q))
+  unfolding endOrder
   taken clears m e f =
       let c = clearedWords clears (h .nbytes) in
       let l = parted-one n p h q (f .held .tiles) .part .0 .least in
@@ -184,7 +162,7 @@ module _ (n : ℕ) (D : ℕ → Type 0) (k : List Kept) (w : Mem) (p : List Head
         (upd-other y (b + 48) 0 (b + 32) (omega arith) ∙ upd-same x (b + 32) 0, (upd-same y (b + 48) 0, tt)),
       )
 
-  whole-taken : (clears : Bool) (m : Mem) → Rests n D k w m (p ++ (h ∷ q)) → Comes n D k w m (emptying (slots b) ++ ending clears b (h .nbytes)) (p ++ (withState h RESERVED ∷ q))
+  whole-taken : (clears : Bool) (m : Mem) → Rests n D k w m (p ++ (h ∷ q)) → Comes n D k w m (emptying (slots b) ++ endOrder clears b (h .nbytes)) (p ++ (withState h RESERVED ∷ q))
   whole-taken clears m f =
       emptied n D k w p h q free clear m _ (p ++ (withState h RESERVED ∷ q)) f (taken n D k w p h q free clear clears _ (bare m))
 
@@ -197,7 +175,7 @@ module _ (n : ℕ) (D : ℕ → Type 0) (k : List Kept) (w : Mem) (p : List Head
       → Comes n D k w m
       (store (b + need) (h .nbytes - need)
       ∷ store (stateAt (b + need)) FREE
-      ∷ (emptying (slots b) ++ (store b need ∷ ending clears b need)))
+      ∷ (emptying (slots b) ++ (store b need ∷ endOrder clears b need)))
       (p ++ (withState (fore need) RESERVED ∷ rest need ∷ q))
   unfolding after
   part-taken clears m need e l u f =
@@ -215,37 +193,29 @@ module _ (n : ℕ) (D : ℕ → Type 0) (k : List Kept) (w : Mem) (p : List Head
       let ends = p ++ (withState (fore need) RESERVED ∷ rest need ∷ q) in
       comes-store n D k w m _ _ gs ends f
       (comes-store n D k w m1 _ _ gs ends f1
-      (emptied n D k w p h q free clear m2 (store b need ∷ ending clears b need) ends f2
+      (emptied n D k w p h q free clear m2 (store b need ∷ endOrder clears b need) ends f2
       (λ g. comes-store n D k w m5 _ _ gs ends g
       (taken n D k w p (fore need) (rest need ∷ q) refl (λ o d. ⊎-elim inl (λ j. inr (omega arith)) (clear o d)) clears m6 none (splits m5 need e l u size state g)))))
 
   -- both
   pub reserves : (clears : Bool) (m : Mem) (need : ℕ) → need % unit ≡ 0 → leastClump ≤ need → need ≤ h .nbytes → Rests n D k w m (p ++ (h ∷ q)) → Reserved clears n D k w m p h q need
-  unfolding reserveOrder reserveStores
+  unfolding reserveOrder reserveStores endOrder
   reserves clears m need e l u f = go (leb leastRest (h .nbytes - need)) refl
     where
-      apart-state : (size : ℕ) → Spares (stateAt b) (clearing clears b size)
-      apart-state size = zeros-other (stateAt b) (b + headerBytes) (clearedWords clears size) (inl (omega arith))
-
       go : (c : Bool) → leb leastRest (h .nbytes - need) ≡ c → Reserved clears n D k w m p h q need
       go true z =
           let y = leb-true leastRest (h .nbytes - need) z in
-          let sized = store (b + need) (h .nbytes - need) ∷ store (stateAt (b + need)) FREE ∷ (emptying (slots b) ++ (store b need ∷ [])) in
           record {
             clump = withState (fore need) RESERVED;
             above = rest need ∷ q;
             place = refl;
             room = omega arith;
             less = u;
+            size = rw z refl;
             whole = e;
             state = refl;
             comes = rw z (part-taken clears m need e l (omega arith) f);
             calm = touching-split p h (withState (fore need) RESERVED) (rest need) q free refl refl;
-            before = sized ++ clearing clears b need;
-            last = rw z refl;
-            waits = (omega arith, (omega arith, (omega arith, (omega arith, (omega arith, (omega arith, apart-state need))))));
-            blank = λ i. rw z (leaves-behind (Blank b need) sized (ending clears b need) (ending-blank clears b need i));
-            spared = λ i j c d. rw z (inl (omega arith), (inl (omega arith), (inr (omega arith), (inr (omega arith), (inr (omega arith), (inr (omega arith), ending-spared clears b need j i c))))));
           }
       go false z =
           record {
@@ -254,13 +224,9 @@ module _ (n : ℕ) (D : ℕ → Type 0) (k : List Kept) (w : Mem) (p : List Head
             place = refl;
             room = u;
             less = omega arith;
+            size = rw z refl;
             whole = parted-one n p h q (f .held .tiles) .part .0 .whole;
             state = refl;
             comes = rw z (whole-taken clears m f);
             calm = touching-taken p h (withState h RESERVED) q refl;
-            before = emptying (slots b) ++ clearing clears b (h .nbytes);
-            last = rw z refl;
-            waits = (omega arith, (omega arith, (omega arith, apart-state (h .nbytes))));
-            blank = λ i. rw z (leaves-behind (Blank b (h .nbytes)) (emptying (slots b)) (ending clears b (h .nbytes)) (ending-blank clears b (h .nbytes) i));
-            spared = λ i j c d. rw z (inr (omega arith), (inr (omega arith), (inr (omega arith), ending-spared clears b (h .nbytes) j i c)));
           }

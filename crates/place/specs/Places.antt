@@ -3,16 +3,16 @@ use Prim.Native.Nat.{ℕ, _+_, _-_, _%_, _<_, _≤_}
 use mathlib.Core.Path.{_≡_}
 use mathlib.Core.Bool.{Bool}
 use mathlib.Core.Option.{some, none}
-use mathlib.Core.List.{List, [], _∷_, _++_}
+use mathlib.Core.List.{List, _∷_, _++_}
 use native.Mathlib.Omega.{arith}
 use borrow.Author.Tests.{eq-eqb, ne-eqb, le-leb, lt-leb, leb-true}
 use Rattle.rules.specs.declared.Answer.{Answer}
 use Rattle.rules.specs.Lists.{seek}
 use Rattle.rules.specs.Words.{Image, Mem, mem, store, wordValues}
 use Rattle.rules.specs.Pages.{clumpsAt, unit}
-use Rattle.rules.specs.Clumps.{Head, head, isFree, headerBytes, leastClump, slots, stateAt, FREE, RESERVED, Tiles, walk, offsetOf}
+use Rattle.rules.specs.Clumps.{Head, head, isFree, headerBytes, leastClump, slots, stateAt, FREE, Tiles, walk, offsetOf}
 use Rattle.rules.specs.Answers.{granted, refuse, sizeZero, noRoom}
-use Rattle.rules.specs.Stores.{needOf, fits, emptying, leastRest, clearing, reserveStores}
+use Rattle.rules.specs.Stores.{needOf, fits, emptying, leastRest, taking, reserveStores}
 use Rattle.rules.specs.Requests.{reserve}
 use Rattle.laws.specs.Searches.{and-both, seek-split}
 use Rattle.laws.specs.Needs.{need-clump}
@@ -59,11 +59,11 @@ pub stores-split :
     → reserveStores clears need h
     ≡ store (h .at + need) (h .nbytes - need)
     ∷ store (stateAt (h .at + need)) FREE
-    ∷ (emptying (slots (h .at)) ++ (store (h .at) need ∷ (clearing clears (h .at) need ++ (store (stateAt (h .at)) RESERVED ∷ []))))
+    ∷ (emptying (slots (h .at)) ++ (store (h .at) need ∷ taking clears (h .at) need))
 unfolding reserveStores
 stores-split clears need h l = rw (le-leb leastRest (h .nbytes - need) l)
 
-pub stores-whole : (clears : Bool) (need : ℕ) (h : Head) → h .nbytes - need < leastRest → reserveStores clears need h ≡ emptying (slots (h .at)) ++ (clearing clears (h .at) (h .nbytes) ++ (store (stateAt (h .at)) RESERVED ∷ []))
+pub stores-whole : (clears : Bool) (need : ℕ) (h : Head) → h .nbytes - need < leastRest → reserveStores clears need h ≡ emptying (slots (h .at)) ++ taking clears (h .at) (h .nbytes)
 unfolding reserveStores
 stores-whole clears need h l = rw (lt-leb leastRest (h .nbytes - need) l)
 
@@ -72,7 +72,7 @@ module _ (img : Image) (clears : Bool) (h size fuse n k : ℕ) (p : Power) (fres
   pub split-acts :
       {x : Image} {q : Power} {r : Answer}
       → leastRest ≤ n - k
-      → Ran img p (store (h + k) (n - k) ∷ store (stateAt (h + k)) FREE ∷ (emptying (slots h) ++ (store h k ∷ (clearing clears h k ++ (store (stateAt h) RESERVED ∷ []))))) x q
+      → Ran img p (store (h + k) (n - k) ∷ store (stateAt (h + k)) FREE ∷ (emptying (slots h) ++ (store h k ∷ taking clears h k))) x q
       → r ≡ told q (h + headerBytes)
       → Acts img (granted (h + headerBytes) (reserveStores clears (needOf size) (head (mem img) h))) fuse x r
   split-acts l s e =
@@ -82,7 +82,7 @@ module _ (img : Image) (clears : Bool) (h size fuse n k : ℕ) (p : Power) (fres
   pub whole-acts :
       {x : Image} {q : Power} {r : Answer}
       → n - k < leastRest
-      → Ran img p (emptying (slots h) ++ (clearing clears h n ++ (store (stateAt h) RESERVED ∷ []))) x q
+      → Ran img p (emptying (slots h) ++ taking clears h n) x q
       → r ≡ told q (h + headerBytes)
       → Acts img (granted (h + headerBytes) (reserveStores clears (needOf size) (head (mem img) h))) fuse x r
   whole-acts l s e =

@@ -1,12 +1,12 @@
 // Reserve: the first FREE clump that is large enough, split or whole. Takes any bytes, any size and any fuse.
 ghost use mathlib.Core.Path.{_≡_};
-ghost use mathlib.Core.List.{[], _∷_, _++_};
+ghost use mathlib.Core.List.{_∷_, _++_};
 ghost use Prim.Native.Nat.{_+_, _%_, _≤_, _<_};
 ghost use lib.ListN.{length};
 ghost use Rattle.rules.specs.Words.{wordBytes, wordValues, mem, store};
 ghost use Rattle.rules.specs.Clumps.{head, headerBytes, leastClump, slots, stateAt, RESERVED, FREE};
 ghost use Rattle.rules.specs.Answers.{granted};
-ghost use Rattle.rules.specs.Stores.{emptying, needOf, clearedWords, clearing, reserveStores};
+ghost use Rattle.rules.specs.Stores.{emptying, needOf, clearedWords, taking, reserveStores};
 ghost use Rattle.rules.specs.Requests.{Does, reserving};
 ghost use Rattle.word.specs.Runs.{Ran};
 ghost use Rattle.steps.specs.Acts.{Acts};
@@ -40,7 +40,7 @@ fn take(img: &mut [u8], p: Power, h: usize, size: usize, clears: bool) -> Power
     requires { ⌜ h + size ≤ length (now img) ⌝ }
     requires { ⌜ h % wordBytes ≡ 0 ⌝ }
     requires { ⌜ p .made + p .left < wordValues ⌝ }
-    ensures { λ r. ⌜ Ran (now (img .entry)) p (clearing clears h size ++ (store (stateAt h) RESERVED ∷ [])) (now (img .exit)) r ⌝ }
+    ensures { λ r. ⌜ Ran (now (img .entry)) p (taking clears h size) (now (img .exit)) r ⌝ }
 {
     let words = cleared_words(size, clears);
     let p1 = steps::zero_words(img, p, h + 64, words);
@@ -53,7 +53,7 @@ fn split_off(img: &mut [u8], p: Power, h: usize, need: usize, rest: u64, clears:
     requires { ⌜ h + need + headerBytes ≤ length (now img) ⌝ }
     requires { ⌜ (h % wordBytes ≡ 0) × (need % wordBytes ≡ 0) ⌝ }
     requires { ⌜ p .made + p .left < wordValues ⌝ }
-    ensures { λ r. ⌜ Ran (now (img .entry)) p (store (h + need) rest ∷ store (stateAt (h + need)) FREE ∷ (emptying (slots h) ++ (store h need ∷ (clearing clears h need ++ (store (stateAt h) RESERVED ∷ []))))) (now (img .exit)) r ⌝ }
+    ensures { λ r. ⌜ Ran (now (img .entry)) p (store (h + need) rest ∷ store (stateAt (h + need)) FREE ∷ (emptying (slots h) ++ (store h need ∷ taking clears h need))) (now (img .exit)) r ⌝ }
 {
     let p1 = word::store(img, p, h + need, rest);
     let p2 = word::store(img, p1, h + need + 8, Clump::FREE);
@@ -68,7 +68,7 @@ fn take_whole(img: &mut [u8], p: Power, h: usize, size: usize, clears: bool) -> 
     requires { ⌜ h + size ≤ length (now img) ⌝ }
     requires { ⌜ h % wordBytes ≡ 0 ⌝ }
     requires { ⌜ p .made + p .left < wordValues ⌝ }
-    ensures { λ r. ⌜ Ran (now (img .entry)) p (emptying (slots h) ++ (clearing clears h size ++ (store (stateAt h) RESERVED ∷ []))) (now (img .exit)) r ⌝ }
+    ensures { λ r. ⌜ Ran (now (img .entry)) p (emptying (slots h) ++ taking clears h size) (now (img .exit)) r ⌝ }
 {
     let p1 = steps::empty_targets(img, p, h);
     take(img, p1, h, size, clears)

@@ -55,9 +55,12 @@ clearedWords clears size = cond clears ((size - headerBytes) / wordBytes) 0
 abbrev pub clearing : Bool → ℕ → ℕ → List Store
 clearing clears a size = zeros (a + headerBytes) (clearedWords clears size)
 
+-- it clears them "after the sizes are right and before the state becomes RESERVED": so it ends, in a clump of size bytes at a
+abbrev pub taking : Bool → ℕ → ℕ → List Store
+taking clears a size = clearing clears a size ++ (store (stateAt a) RESERVED ∷ [])
+
 -- "nbytes and state FREE of the rest's header; then 0 to the three targets of the chosen clump; nbytes = need; state RESERVED.
--- .. With a smaller rest the whole clump is used: targets, state". W5: the body is cleared "after the sizes are right and before the state
--- becomes RESERVED"
+-- .. With a smaller rest the whole clump is used: targets, state"
 unfoldable pub reserveStores : Bool → ℕ → Head → List Store
 reserveStores clears need h =
     let a = h .at in
@@ -65,8 +68,8 @@ reserveStores clears need h =
     cond (leb leastRest rest)
     (store (a + need) rest
     ∷ store (stateAt (a + need)) FREE
-    ∷ (emptying (slots a) ++ (store a need ∷ (clearing clears a need ++ (setState h RESERVED ∷ [])))))
-    (emptying (slots a) ++ (clearing clears a (h .nbytes) ++ (setState h RESERVED ∷ [])))
+    ∷ (emptying (slots a) ++ (store a need ∷ taking clears a need)))
+    (emptying (slots a) ++ taking clears a (h .nbytes))
 
 -- "7 stores. With a smaller rest .. 4 stores." W5: "The store counts of 01 grow by body bytes divided by 8", which `clearedWords` is
 abbrev pub splitCount : ℕ

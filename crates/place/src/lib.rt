@@ -15,14 +15,6 @@ use page::clump::Clump;
 use rules::Answer;
 use word::Power;
 
-// need, where it fits.
-fn need_of(size: u64) -> u64
-    requires { ⌜ needOf size < wordValues ⌝ }
-    ensures { λ r. ⌜ r ≡ needOf size ⌝ }
-{
-    64 + (size / 64 + (size % 64 + 63) / 64) * 64
-}
-
 // How many words of its body reserve clears, of a clump of so many bytes: all of them, or none in the form that keeps the old rule.
 fn cleared_words(size: usize, clears: bool) -> usize
     requires { ⌜ leastClump ≤ size ⌝ }
@@ -80,7 +72,7 @@ fn reserve_at(img: &mut [u8], h: usize, size: u64, clears: bool, fuse: u64) -> A
     ensures { λ r. ⌜ Acts (now (img .entry)) (granted (h + headerBytes) (reserveStores clears (needOf size) (head (mem (now (img .entry))) h))) fuse (now (img .exit)) r ⌝ }
 {
     let n = word::get(img, h);
-    let need = need_of(size);
+    let need = need::need_of(size);
     let p = Power::new(fuse);
     if Clump::LEAST <= n - need {
         let q = split_off(img, p, h, need as usize, n - need, clears);

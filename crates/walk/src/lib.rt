@@ -4,7 +4,7 @@ ghost use mathlib.Core.Path.{_≡_};
 ghost use mathlib.Core.Bool.{_||_};
 ghost use Prim.Native.Nat.{_+_, _%_, _≤_, _<_};
 ghost use lib.ListN.{length};
-ghost use lib.Dec.{eqb, leb};
+ghost use lib.Dec.{eqb};
 ghost use Rattle.rules.specs.Lists.{seek, any};
 ghost use Rattle.rules.specs.Words.{wordBytes, wordValues, mem};
 ghost use Rattle.rules.specs.Clumps.{headerBytes, targetOf, offsetOf};
@@ -46,21 +46,11 @@ pub fn find(img: &[u8], body: u64) -> Found
     }
 }
 
-// Whether need, which may lie past 64 bits, is at most nbytes: it is never computed.
-fn room(nbytes: u64, size: u64) -> bool
-    ensures { λ r. ⌜ r ≡ leb (needOf size) nbytes ⌝ }
-{
-    if nbytes < Clump::HEADER {
-        return false;
-    }
-    size <= (nbytes - Clump::HEADER) / 64 * 64
-}
-
 fn suits(c: Clump, size: u64) -> bool
     ensures { λ r. ⌜ r ≡ fits (needOf size) (headOf 0 c) ⌝ }
 {
     if c.state == Clump::FREE {
-        return room(c.nbytes, size);
+        return need::room(c.nbytes, size);
     }
     false
 }

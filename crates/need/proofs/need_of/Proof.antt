@@ -3,8 +3,8 @@ use native.Mathlib.Omega.{arith}
 use Rattle.rules.specs.Stores.{needOf}
 use Rattle.laws.specs.Needs.{need-is}
 use borrow.Author.Needs.{needs}
-use Rattle.place.proofs.need_of.Statement.{statement}
-use Rattle.place.proofs.need_of.Tie as tie
+use Rattle.need.proofs.need_of.Statement.{statement}
+use Rattle.need.proofs.need_of.Tie as tie
 
 add-result : tie.Need-add-result
 add-result c = search needs

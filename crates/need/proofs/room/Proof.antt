@@ -1,8 +1,8 @@
 -- `room`: need is past nbytes that are less than a header; else the size is held to what is left in whole units. Assumes nothing.
 use Rattle.laws.specs.Needs.{need-small, need-room}
 use borrow.Author.Needs.{needs}
-use Rattle.walk.proofs.room.Statement.{statement}
-use Rattle.walk.proofs.room.Tie as tie
+use Rattle.need.proofs.room.Statement.{statement}
+use Rattle.need.proofs.room.Tie as tie
 
 returns : tie.Need-returns
 returns c = need-small _ _ (c .if1 .taken)

@@ -18,7 +18,7 @@ use Rattle.rules.specs.Lists.{Each}
 use Rattle.rules.specs.Words.{Image, Store, store, Bytes, mem, after, carry}
 use Rattle.rules.specs.Clumps.{Head, bodyOf, endOf, stateAt, slots, leastClump, FREE, RESERVED}
 use Rattle.rules.specs.Answers.{done}
-use Rattle.rules.specs.Stores.{emptying, needOf, clearedWords, reserveStores}
+use Rattle.rules.specs.Stores.{emptying, needOf, isSplit, partOf, clearedWords, reserveStores}
 use Rattle.rules.specs.Requests.{finder, verdictOn, storesFor, cut, finished, answerOn}
 use Rattle.rules.specs.Reading.{clumpsOf, within}
 use Rattle.rules.specs.Demands.{Accepted, Cleared, NotCleared}
@@ -36,7 +36,7 @@ use Rattle.loss.specs.Orders.{reserveOrder, endOrder}
 use Rattle.loss.specs.Redo.{Spares}
 use Rattle.loss.specs.Blanked.{Leaves, leaves-behind, Late, late-behind}
 use Rattle.loss.specs.Images.{cut-mem}
-use Rattle.loss.specs.Ending.{splitting, partOf, Blank, end-late, end-blank, end-spared}
+use Rattle.loss.specs.Ending.{Blank, end-late, end-blank, end-spared}
 use Rattle.loss.specs.Fresh.{lies, number, stores-are, memory-is, left, place-is, made, was-free}
 
 -- the sizes, which come first
@@ -48,12 +48,12 @@ sizingBy b need h =
     (emptying (slots a))
 
 abbrev sizing : ℕ → Head → List Store
-sizing need h = sizingBy (splitting need h) need h
+sizing need h = sizingBy (isSplit need (h .nbytes)) need h
 
 -- "after the sizes are right"
-order-is : (clears : Bool) (need : ℕ) (h : Head) → reserveOrder clears need h ≡ sizing need h ++ endOrder clears (h .at) (partOf need h)
+order-is : (clears : Bool) (need : ℕ) (h : Head) → reserveOrder clears need h ≡ sizing need h ++ endOrder clears (h .at) (partOf need (h .nbytes))
 unfolding reserveOrder reserveStores endOrder
-order-is clears need h = go (splitting need h)
+order-is clears need h = go (isSplit need (h .nbytes))
   where
     go :
         (b : Bool)
@@ -69,14 +69,14 @@ order-is clears need h = go (splitting need h)
 -- of a need that is a clump's: the sizes are no stores to the state, nor to the body
 module _ (need : ℕ) (h : Head) (l : leastClump ≤ need) where
   sizing-other : Spares (stateAt (h .at)) (sizing need h)
-  sizing-other = go (splitting need h)
+  sizing-other = go (isSplit need (h .nbytes))
     where
       go : (b : Bool) → Spares (stateAt (h .at)) (sizingBy b need h)
       go true = (omega arith, (omega arith, (omega arith, (omega arith, (omega arith, (omega arith, tt))))))
       go false = (omega arith, (omega arith, (omega arith, tt)))
 
-  sizing-miss : (i : ℕ) → bodyOf h ≤ i → i < h .at + partOf need h → Each (Miss i) (sizing need h)
-  sizing-miss i k = go (splitting need h)
+  sizing-miss : (i : ℕ) → bodyOf h ≤ i → i < h .at + partOf need (h .nbytes) → Each (Miss i) (sizing need h)
+  sizing-miss i k = go (isSplit need (h .nbytes))
     where
       go : (b : Bool) → i < h .at + cond b need (h .nbytes) → Each (Miss i) (sizingBy b need h)
       go true u = (inl u, (inl (omega arith), (inr (omega arith), (inr (omega arith), (inr (omega arith), (inr (omega arith), tt))))))
@@ -85,17 +85,17 @@ module _ (need : ℕ) (h : Head) (l : leastClump ≤ need) where
   order-late : (clears : Bool) → Late (stateAt (h .at)) (reserveOrder clears need h)
   order-late clears =
       rw (order-is clears need h)
-      (late-behind (stateAt (h .at)) (sizing need h) (endOrder clears (h .at) (partOf need h)) sizing-other (end-late (h .at) (partOf need h) clears))
+      (late-behind (stateAt (h .at)) (sizing need h) (endOrder clears (h .at) (partOf need (h .nbytes))) sizing-other (end-late (h .at) (partOf need (h .nbytes)) clears))
 
-  order-blank : Leaves (Blank (h .at) (partOf need h)) (reserveOrder true need h)
+  order-blank : Leaves (Blank (h .at) (partOf need (h .nbytes))) (reserveOrder true need h)
   order-blank =
       rw (order-is true need h)
-      (leaves-behind (Blank (h .at) (partOf need h)) (sizing need h) (endOrder true (h .at) (partOf need h)) (end-blank (h .at) (partOf need h)))
+      (leaves-behind (Blank (h .at) (partOf need (h .nbytes))) (sizing need h) (endOrder true (h .at) (partOf need (h .nbytes))) (end-blank (h .at) (partOf need (h .nbytes))))
 
-  order-spared : (i : ℕ) → bodyOf h ≤ i → i < h .at + partOf need h → Each (Miss i) (reserveOrder false need h)
+  order-spared : (i : ℕ) → bodyOf h ≤ i → i < h .at + partOf need (h .nbytes) → Each (Miss i) (reserveOrder false need h)
   order-spared i k u =
       rw (order-is false need h)
-      (each-append (Miss i) (sizing need h) (endOrder false (h .at) (partOf need h)) (sizing-miss i k u) (end-spared (h .at) (partOf need h) i k))
+      (each-append (Miss i) (sizing need h) (endOrder false (h .at) (partOf need (h .nbytes))) (sizing-miss i k u) (end-spared (h .at) (partOf need (h .nbytes)) i k))
 
 -- a reserve of the first form that is accepted
 module _ (img : Image) (size : ℕ) (b : Bytes img) (accepted : Accepted img (Reserve size)) where

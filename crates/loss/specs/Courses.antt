@@ -1,12 +1,13 @@
 -- The course of a request on a settled pool: every cut is sound, the end is settled, and a cut is recovered to what the rule says. By
 -- what its stores come to, request by request. Assumes nothing.
-use Prim.Native.Nat.{ℕ, zero, suc, _<_, _≤_}
+use Prim.Native.Nat.{ℕ, zero, suc, _+_, _<_, _≤_}
 use mathlib.Core.Path.{_≡_, refl, sym, ap, subst}
 use mathlib.Core.Bool.{Bool, true, false, cond}
 use mathlib.Core.List.{List, [], _∷_, _++_}
 use native.Mathlib.Omega.{arith}
 use lib.Dec.{ltb}
-use lib.ListN.{length, take}
+use lib.ListN.{length, take, length-append}
+use lib.Seq.{take-all}
 use borrow.Author.Tests.{ltb-true, ltb-false}
 use Rattle.rules.specs.Lists.{any, Each}
 use Rattle.rules.specs.Words.{Mem, Store, upd, after}
@@ -154,34 +155,32 @@ course-decides n m hs es st t f d = record { sounds = sounds; calm = held-calm n
         let o = owned-beyond n m hs (f .tiles) in
         record { kept = k; words = m; one = led-less n (Outside hs) (Owned k) k m m o (d .early 0 (omega arith)); other = led-less n (Outside hs) (Owned k) k m _ o (early j e) }
 
--- two stores, of which the first changes nothing for recovery
-pub course-two :
-    (n : ℕ) (k : List Kept) (w m : Mem) (a b : Store) (hs : List Head)
-    → Rests n (Owned k) k w m hs
-    → Rests n (Owned k) k w (upd m (a .to) (a .word)) hs
-    → Held n (upd (upd m (a .to) (a .word)) (b .to) (b .word)) hs
-    → touching hs ≡ false
-    → Course n m never (a ∷ b ∷ [])
+-- stores that tell recovery nothing, then one
+pub course-last :
+    (n : ℕ) (k : List Kept) (w m : Mem) (st : List Store) (s : Store) (hs gs : List Head)
+    → Comes n (Owned k) k w m st hs
+    → Held n (upd (after m st) (s .to) (s .word)) gs
+    → Each Idle gs
+    → touching gs ≡ false
+    → Course n m never (st ++ (s ∷ []))
 unfolding after
-course-two n k w m a b hs f g e t = record { sounds = sounds; calm = held-calm n _ hs e (f .idle) t; same = same }
+course-last n k w m st s hs gs c e i t = record { sounds = sounds; calm = rw ends-are (held-calm n _ gs e i t); same = same }
   where
-    sounds : (j : ℕ) → Sound n (after m (take j (a ∷ b ∷ [])))
-    sounds zero = idle-sound n m hs (f .held) (f .idle)
-    sounds (suc zero) = idle-sound n _ hs (g .held) (f .idle)
-    sounds (suc (suc zero)) = idle-sound n _ hs e (f .idle)
-    sounds (suc (suc (suc j))) = idle-sound n _ hs e (f .idle)
+    ends-are : after m (st ++ (s ∷ [])) ≡ upd (after m st) (s .to) (s .word)
+    ends-are = after-append m st (s ∷ [])
 
-    same : (j : ℕ) → 0 < j → j < 2 → SameFate n m (after m (take j (a ∷ b ∷ [])))
-    same zero l u = absurd (omega arith)
-    same (suc zero) l u = record { kept = k; words = w; one = resting f; other = resting g }
-    same (suc (suc j)) l u = absurd (omega arith)
+    long-is : length (st ++ (s ∷ [])) ≡ length st + 1
+    long-is = length-append st (s ∷ [])
 
--- one store
-pub course-one : (n : ℕ) (m : Mem) (b : ℕ → Bool) (a : Store) (hs : List Head) → Held n m hs → Each Idle hs → Held n (upd m (a .to) (a .word)) hs → touching hs ≡ false → Course n m b (a ∷ [])
-unfolding after
-course-one n m b a hs f i e t = record { sounds = sounds; calm = held-calm n _ hs e i t; same = λ j l u. absurd (omega arith) }
-  where
-    sounds : (j : ℕ) → Sound n (after m (take j (a ∷ [])))
-    sounds zero = idle-sound n m hs f i
-    sounds (suc zero) = idle-sound n _ hs e i
-    sounds (suc (suc j)) = idle-sound n _ hs e i
+    early : (j : ℕ) → j ≤ length st → Led n (Owned k) k w (after m (take j (st ++ (s ∷ []))))
+    early j l = rw (take-short st (s ∷ []) j l) (every-cut (Led n (Owned k) k w) m st j (c .every))
+
+    sounds : (j : ℕ) → Sound n (after m (take j (st ++ (s ∷ []))))
+    sounds j = go (ltb (length st) j) refl
+      where
+        go : (b : Bool) → ltb (length st) j ≡ b → Sound n (after m (take j (st ++ (s ∷ []))))
+        go true z = let l = ltb-true (length st) j z in rw (take-all j (st ++ (s ∷ [])) (omega (arith, long-is)), ends-are) (idle-sound n _ gs e i)
+        go false z = led-sound n (Owned k) k w _ (early j (ltb-false (length st) j z))
+
+    same : (j : ℕ) → 0 < j → j < length (st ++ (s ∷ [])) → SameFate n m (after m (take j (st ++ (s ∷ []))))
+    same j l u = record { kept = k; words = w; one = every-start (Led n (Owned k) k w) m st (c .every); other = early j (omega (arith, long-is)) }

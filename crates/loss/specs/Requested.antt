@@ -10,8 +10,8 @@ use borrow.Author.Tests.{leb-true, eqb-false, not-false}
 use Rattle.rules.specs.declared.Request.{Request}
 use Rattle.rules.specs.declared.Request.the-variants.{Create, Reserve, ReserveUncleared, Onactive, Onfree, Withdraw, Activate, Free, Check, Recover}
 use Rattle.rules.specs.Lists.{seek, Each}
-use Rattle.rules.specs.Words.{Mem}
-use Rattle.rules.specs.Clumps.{Head, hasState, isFree, isWaiting, slots, used, unmarked, freed, targetOf, withMark, slotsBy, entriesBy, RESERVED, walk}
+use Rattle.rules.specs.Words.{Mem, store, after}
+use Rattle.rules.specs.Clumps.{Head, hasState, isFree, isWaiting, slots, valueAt, used, unmarked, freed, targetOf, withMark, slotsBy, entriesBy, RESERVED, walk}
 use Rattle.rules.specs.Sound.{isValid, allValid, touching, unsettled}
 use Rattle.rules.specs.Answers.{storesOf, sizeZero, wrongState, badTarget, ifSettled}
 use Rattle.rules.specs.Stores.{needOf, fits, reserveStores, activateStores, freeStores, recoverStores}
@@ -26,12 +26,12 @@ use Rattle.laws.specs.Needs.{need-even, need-clump}
 use Rattle.laws.specs.Bodies.{Off}
 use Rattle.loss.specs.Orders.{reserveOrder, listOrder, recoverOrder}
 use Rattle.loss.specs.Held.{Held, Idle, sound-held}
-use Rattle.loss.specs.Fates.{fates, Owned}
+use Rattle.loss.specs.Fates.{fates, Owned, Rests}
 use Rattle.loss.specs.Reserving.{Reserved, reserves}
 use Rattle.loss.specs.Listing.{value-rests, target-held, withdrawn-held}
 use Rattle.loss.specs.Owning.{owned-off, owned-beyond, rests-as, own-fate}
-use Rattle.loss.specs.Recovering.{recovers}
-use Rattle.loss.specs.Courses.{Course, never, Decides, calm-idle, course-none, course-comes, course-two, course-one, course-decides}
+use Rattle.loss.specs.Recovering.{comes-none, comes-store, recovers}
+use Rattle.loss.specs.Courses.{Course, never, Decides, calm-idle, course-none, course-comes, course-last, course-decides}
 use Rattle.loss.specs.Turns.{activate-decides, free-decides}
 
 -- a clump of a settled pool, with the clumps below and above it
@@ -57,6 +57,12 @@ amid n m t h s u e =
       apart = subst (λ (hs : List Head). touching hs ≡ false) i (c .1);
     }
 
+-- recovery will keep of it what it has
+pub at-rest : (n : ℕ) (m : Mem) (h : Head) (a : Amid n m h) → let hs = a .below ++ (h ∷ a .above) in Rests n (Owned (fates m hs)) (fates m hs) m m hs
+at-rest n m h a =
+    let hs = a .below ++ (h ∷ a .above) in
+    rests-as n (Owned (fates m hs)) m hs (a .held) (a .idle) (owned-beyond n m hs (a .held .tiles))
+
 module _ (n : ℕ) (m : Mem) (s : Sound n m) (u : unsettled (walk n m) ≡ false) where
   none-made : (b : ℕ → Bool) → Course n m b []
   none-made b = course-none n m b s u
@@ -74,7 +80,7 @@ module _ (n : ℕ) (m : Mem) (s : Sound n m) (u : unsettled (walk n m) ≡ false
       let t = a .held .tiles in
       reserves n (Owned k) k m p h q (f .0) (λ o d. each-right (Off o) p (h ∷ q) (owned-off n m (p ++ (h ∷ q)) o t d) .0 .whole (f .0)) clears m (needOf size) (need-even size) (need-clump size z)
       (leb-true (needOf size) (h .nbytes) (f .1))
-      (rests-as n (Owned k) m (p ++ (h ∷ q)) (a .held) (a .idle) (owned-beyond n m (p ++ (h ∷ q)) t))
+      (at-rest n m h a)
 
   placed-course : (clears : Bool) (size : ℕ) → (size ≡ 0 → ⊥) → (o : Option Head) → seek (fits (needOf size)) (walk n m) ≡ o → Course n m never (storesOf (placed clears (needOf size) o))
   unfolding reserveOrder
@@ -92,7 +98,7 @@ module _ (n : ℕ) (m : Mem) (s : Sound n m) (u : unsettled (walk n m) ≡ false
 
   -- the list of a clump
   listed-course : (h : Head) (o t r v : ℕ) → (isValid (walk n m) t ≡ true → targetOf r ≡ t) → Amid n m h → (e : Option ℕ) → openSlot m (slots (h .at)) ≡ e → Course n m never (storesOf (listed (isValid (walk n m) t) e o r v))
-  unfolding listOrder
+  unfolding listOrder after
   listed-course h o t r v y a none e = none-made never
   listed-course h o t r v y a (some i) e =
       behind-test (Course n m never) (none-made never) (not (isValid (walk n m) t)) badTarget _
@@ -104,9 +110,9 @@ module _ (n : ℕ) (m : Mem) (s : Sound n m) (u : unsettled (walk n m) ≡ false
           let q = a .above in
           let hs = p ++ (h ∷ q) in
           let k = fates m hs in
-          let f = rests-as n (Owned k) m hs (a .held) (a .idle) (owned-beyond n m hs (a .held .tiles)) in
+          let f = at-rest n m h a in
           let g = value-rests n m p h q i v e (Owned k) k m f in
-          course-two n k m m _ _ hs f g (target-held n m p h q i v e r z (a .held) (g .held)) (a .apart)
+          course-last n k m m (store (valueAt i) v ∷ []) (store i r) hs hs (comes-store n (Owned k) k m m _ [] hs hs f (comes-none n (Owned k) k m _ hs g)) (target-held n m p h q i v e r z (a .held) (g .held)) (a .idle) (a .apart)
 
   enlist-course : (allowed : Head → Bool) (o t r v : ℕ) (h : Head) → (isValid (walk n m) t ≡ true → targetOf r ≡ t) → Amid n m h → Course n m never (storesOf (enlist m (walk n m) allowed o t r v h))
   unfolding enlist
@@ -115,10 +121,12 @@ module _ (n : ℕ) (m : Mem) (s : Sound n m) (u : unsettled (walk n m) ≡ false
       (λ z. listed-course h o t r v y a (openSlot m (slots (h .at))) refl)
 
   withdrawn-course : (o : ℕ) (h : Head) → Amid n m h → (us : List ℕ) → slotsBy used m (h .at) ≡ us → Course n m never (storesOf (withdrawn us o))
+  unfolding after
   withdrawn-course o h a [] e = none-made never
   withdrawn-course o h a (i ∷ us) e =
       let hs = a .below ++ (h ∷ a .above) in
-      course-one n m never _ hs (a .held) (a .idle) (withdrawn-held n m (a .below) h (a .above) i us e (a .held)) (a .apart)
+      let k = fates m hs in
+      course-last n k m m [] _ hs hs (comes-none n (Owned k) k m m hs (at-rest n m h a)) (withdrawn-held n m (a .below) h (a .above) i us e (a .held)) (a .idle) (a .apart)
 
   withdraw-course : (o : ℕ) (h : Head) → Amid n m h → Course n m never (storesOf (withdraw m o h))
   unfolding withdraw

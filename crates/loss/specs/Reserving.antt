@@ -7,19 +7,17 @@ use mathlib.Core.Bool.{Bool, true, false}
 use mathlib.Core.Logic.{_⊎_, inl, inr, ⊎-elim}
 use mathlib.Core.List.{List, [], _∷_, _++_}
 use native.Mathlib.Omega.{arith}
-use lib.Dec.{leb}
 use borrow.Author.Tests.{eqb-true, leb-true}
 use Rattle.rules.specs.Words.{Mem, Store, store, upd, after, zeros, wordBytes}
 use Rattle.rules.specs.Pages.{unit}
 use Rattle.rules.specs.Clumps.{Head, headerBytes, endOf, stateAt, isFree, slots, leastClump, FREE, RESERVED}
 use Rattle.rules.specs.Sound.{touching}
-use Rattle.rules.specs.Stores.{emptying, leastRest, clearedWords, reserveStores}
+use Rattle.rules.specs.Stores.{emptying, leastRest, isSplit, partOf, clearedWords, reserveStores}
 use Rattle.word.specs.Memory.{upd-same, upd-other}
 use Rattle.laws.specs.Searches.{each-right}
 use Rattle.laws.specs.Stored.{withState, reads-right}
 use Rattle.laws.specs.Clearing.{cleared-room}
 use Rattle.loss.specs.Orders.{reserveOrder, endOrder}
-use Rattle.loss.specs.Ending.{partOf}
 use Rattle.loss.specs.Fates.{Kept, fates-none, Beyond, Rests}
 use Rattle.loss.specs.Parts.{one-store, parted-one, replaced}
 use Rattle.loss.specs.Redo.{after-spared}
@@ -37,7 +35,7 @@ pub record Reserved (clears : Bool) (n : ℕ) (D : ℕ → Type 0) (k : List Kep
   pub place : clump .at ≡ h .at
   pub room : need ≤ clump .nbytes
   pub less : clump .nbytes ≤ h .nbytes
-  pub size : clump .nbytes ≡ partOf need h
+  pub size : clump .nbytes ≡ partOf need (h .nbytes)
   pub whole : clump .nbytes % unit ≡ 0
   pub state : clump .state ≡ RESERVED
   pub comes : Comes n D k w m (reserveOrder clears need h) (p ++ (clump ∷ above))
@@ -200,9 +198,9 @@ module _ (n : ℕ) (D : ℕ → Type 0) (k : List Kept) (w : Mem) (p : List Head
   -- both
   pub reserves : (clears : Bool) (m : Mem) (need : ℕ) → need % unit ≡ 0 → leastClump ≤ need → need ≤ h .nbytes → Rests n D k w m (p ++ (h ∷ q)) → Reserved clears n D k w m p h q need
   unfolding reserveOrder reserveStores endOrder
-  reserves clears m need e l u f = go (leb leastRest (h .nbytes - need)) refl
+  reserves clears m need e l u f = go (isSplit need (h .nbytes)) refl
     where
-      go : (c : Bool) → leb leastRest (h .nbytes - need) ≡ c → Reserved clears n D k w m p h q need
+      go : (c : Bool) → isSplit need (h .nbytes) ≡ c → Reserved clears n D k w m p h q need
       go true z =
           let y = leb-true leastRest (h .nbytes - need) z in
           record {

@@ -10,9 +10,9 @@ use Rattle.rules.specs.declared.Answer.{Answer}
 use Rattle.rules.specs.Lists.{seek}
 use Rattle.rules.specs.Words.{Image, Mem, mem, store, wordValues}
 use Rattle.rules.specs.Pages.{clumpsAt, unit}
-use Rattle.rules.specs.Clumps.{Head, head, isFree, headerBytes, leastClump, slots, stateAt, FREE, Tiles, walk, offsetOf}
+use Rattle.rules.specs.Clumps.{Head, head, isFree, headerBytes, leastClump, slots, Tiles, walk, offsetOf}
 use Rattle.rules.specs.Answers.{granted, refuse, sizeZero, noRoom}
-use Rattle.rules.specs.Stores.{needOf, fits, emptying, leastRest, taking, reserveStores}
+use Rattle.rules.specs.Stores.{needOf, fits, emptying, leastRest, restHeader, taking, reserveStores}
 use Rattle.rules.specs.Requests.{reserve}
 use Rattle.laws.specs.Searches.{and-both, seek-split}
 use Rattle.laws.specs.Needs.{need-clump}
@@ -57,9 +57,7 @@ pub stores-split :
     (clears : Bool) (need : ℕ) (h : Head)
     → leastRest ≤ h .nbytes - need
     → reserveStores clears need h
-    ≡ store (h .at + need) (h .nbytes - need)
-    ∷ store (stateAt (h .at + need)) FREE
-    ∷ (emptying (slots (h .at)) ++ (store (h .at) need ∷ taking clears (h .at) need))
+    ≡ restHeader (h .at + need) (h .nbytes - need) ++ (emptying (slots (h .at)) ++ (store (h .at) need ∷ taking clears (h .at) need))
 unfolding reserveStores
 stores-split clears need h l = rw (le-leb leastRest (h .nbytes - need) l)
 
@@ -72,7 +70,7 @@ module _ (img : Image) (clears : Bool) (h size fuse n k : ℕ) (p : Power) (fres
   pub split-acts :
       {x : Image} {q : Power} {r : Answer}
       → leastRest ≤ n - k
-      → Ran img p (store (h + k) (n - k) ∷ store (stateAt (h + k)) FREE ∷ (emptying (slots h) ++ (store h k ∷ taking clears h k))) x q
+      → Ran img p (restHeader (h + k) (n - k) ++ (emptying (slots h) ++ (store h k ∷ taking clears h k))) x q
       → r ≡ told q (h + headerBytes)
       → Acts img (granted (h + headerBytes) (reserveStores clears (needOf size) (head (mem img) h))) fuse x r
   split-acts l s e =

@@ -4,9 +4,9 @@ ghost use mathlib.Core.List.{_∷_, _++_};
 ghost use Prim.Native.Nat.{_+_, _%_, _≤_, _<_};
 ghost use lib.ListN.{length};
 ghost use Rattle.rules.specs.Words.{wordBytes, wordValues, mem, store};
-ghost use Rattle.rules.specs.Clumps.{head, headerBytes, leastClump, slots, stateAt, RESERVED, FREE};
+ghost use Rattle.rules.specs.Clumps.{head, headerBytes, leastClump, slots, RESERVED};
 ghost use Rattle.rules.specs.Answers.{granted};
-ghost use Rattle.rules.specs.Stores.{emptying, needOf, clearedWords, taking, reserveStores};
+ghost use Rattle.rules.specs.Stores.{emptying, needOf, restHeader, clearedWords, taking, reserveStores};
 ghost use Rattle.rules.specs.Requests.{Does, reserving};
 ghost use Rattle.word.specs.Runs.{Ran};
 ghost use Rattle.steps.specs.Acts.{Acts};
@@ -45,13 +45,12 @@ fn split_off(img: &mut [u8], p: Power, h: usize, need: usize, rest: u64, clears:
     requires { ⌜ h + need + headerBytes ≤ length (now img) ⌝ }
     requires { ⌜ (h % wordBytes ≡ 0) × (need % wordBytes ≡ 0) ⌝ }
     requires { ⌜ p .made + p .left < wordValues ⌝ }
-    ensures { λ r. ⌜ Ran (now (img .entry)) p (store (h + need) rest ∷ store (stateAt (h + need)) FREE ∷ (emptying (slots h) ++ (store h need ∷ taking clears h need))) (now (img .exit)) r ⌝ }
+    ensures { λ r. ⌜ Ran (now (img .entry)) p (restHeader (h + need) rest ++ (emptying (slots h) ++ (store h need ∷ taking clears h need))) (now (img .exit)) r ⌝ }
 {
-    let p1 = word::store(img, p, h + need, rest);
-    let p2 = word::store(img, p1, h + need + 8, Clump::FREE);
-    let p3 = steps::empty_targets(img, p2, h);
-    let p4 = word::store(img, p3, h, need as u64);
-    take(img, p4, h, need, clears)
+    let p1 = steps::head_rest(img, p, h + need, rest);
+    let p2 = steps::empty_targets(img, p1, h);
+    let p3 = word::store(img, p2, h, need as u64);
+    take(img, p3, h, need, clears)
 }
 
 // The whole clump: its targets, all of its body and its state.

@@ -42,9 +42,20 @@ needOf size = headerBytes + (size + (unit - 1)) / unit * unit
 abbrev pub fits : ℕ → Head → Bool
 fits need h = isFree h && leb need (h .nbytes)
 
--- "With a rest of 128 or more" the clump is split
+-- "With a rest of 128 or more"
 abbrev pub leastRest : ℕ
 leastRest = 128
+
+-- so many bytes are split for a need; "with a smaller rest the whole clump is used". So many are taken of them
+abbrev pub isSplit : ℕ → ℕ → Bool
+isSplit need size = leb leastRest (size - need)
+
+abbrev pub partOf : ℕ → ℕ → ℕ
+partOf need size = cond (isSplit need size) need size
+
+-- "nbytes and state FREE of the rest's header"
+abbrev pub restHeader : ℕ → ℕ → List Store
+restHeader b rest = store b rest ∷ store (stateAt b) FREE ∷ []
 
 -- W5: "Reserve stores 0 to every word of the body, upward"; "a second form of the request keeps the old rule" and clears none. So many
 -- words of a clump of size bytes it clears
@@ -64,11 +75,8 @@ taking clears a size = clearing clears a size ++ (store (stateAt a) RESERVED ∷
 unfoldable pub reserveStores : Bool → ℕ → Head → List Store
 reserveStores clears need h =
     let a = h .at in
-    let rest = h .nbytes - need in
-    cond (leb leastRest rest)
-    (store (a + need) rest
-    ∷ store (stateAt (a + need)) FREE
-    ∷ (emptying (slots a) ++ (store a need ∷ taking clears a need)))
+    cond (isSplit need (h .nbytes))
+    (restHeader (a + need) (h .nbytes - need) ++ (emptying (slots a) ++ (store a need ∷ taking clears a need)))
     (emptying (slots a) ++ taking clears a (h .nbytes))
 
 -- "7 stores. With a smaller rest .. 4 stores." W5: "The store counts of 01 grow by body bytes divided by 8", which `clearedWords` is

@@ -7,7 +7,7 @@ ghost use Prim.Native.Nat.{_+_, _*_, _%_, _≤_, _<_};
 ghost use lib.ListN.{length};
 ghost use Rattle.rules.specs.Words.{wordBytes, wordValues, store, zeros};
 ghost use Rattle.rules.specs.Clumps.{headerBytes, slots, stateAt, ACTIVE, FREEING, FREE};
-ghost use Rattle.rules.specs.Stores.{emptying};
+ghost use Rattle.rules.specs.Stores.{emptying, restHeader};
 ghost use Rattle.word.specs.Runs.{Ran};
 ghost use Rattle.page.specs.Forms.{InImage};
 ghost use Rattle.steps.specs.Lists.{assignsOf, emptiesOf};
@@ -43,6 +43,17 @@ pub fn empty_targets(img: &mut [u8], p: Power, h: usize) -> Power
     let p1 = word::store(img, p, h + 16, 0);
     let p2 = word::store(img, p1, h + 32, 0);
     word::store(img, p2, h + 48, 0)
+}
+
+// The header of a rest: its nbytes, then its state FREE.
+pub fn head_rest(img: &mut [u8], p: Power, at: usize, rest: u64) -> Power
+    requires { ⌜ at + headerBytes ≤ length (now img) ⌝ }
+    requires { ⌜ at % wordBytes ≡ 0 ⌝ }
+    requires { ⌜ p .made + p .left < wordValues ⌝ }
+    ensures { λ r. ⌜ Ran (now (img .entry)) p (restHeader at rest) (now (img .exit)) r ⌝ }
+{
+    let p1 = word::store(img, p, at, rest);
+    word::store(img, p1, at + 8, Clump::FREE)
 }
 
 // Each value of a used entry to its target, in list order.

@@ -16,8 +16,8 @@ use Rattle.rules.specs.Pages.{headerAt, signatureLow, signatureHigh, sig
 use Rattle.rules.specs.Clumps.{stateAt, marked, unmarked, targetOf, headsFrom, walk}
 use Rattle.rules.specs.Sound.{sizeBad, stateBad, inPlace, listBad, faultOf, clumpFault, secondFault, isValid, allValid, targetFault, judge, touching, unsettled}
 use Rattle.rules.specs.Answers.{storesOf, widened, answerOf, ifSound, ifSettled, bytesOf}
-use Rattle.rules.specs.Stores.{createStores, needOf, clearedWords, reserveStores, finishActivating, finishFreeing, activateStores, dropStores, freeStores, releasing, runs, joining, recoverStores}
-use Rattle.rules.specs.Requests.{reserve, reserving, openSlot, enlist, withdraw, activate, free, verdict, answerFor}
+use Rattle.rules.specs.Stores.{createStores, needOf, clearedWords, reserveStores, finishActivating, finishFreeing, growStores, activateStores, dropStores, freeStores, releasing, runs, joining, recoverStores}
+use Rattle.rules.specs.Requests.{reserve, reserving, grown, grow, openSlot, enlist, withdraw, activate, free, verdict, answerFor}
 
 -- a pool: its length and its memory
 abbrev pub Pool : Type 0
@@ -99,7 +99,7 @@ fresh = poolOf ((16384, 0) ∷ []) []
 
 -- a row is computed by opening every rule that it may meet
 unfoldable pub everyRule : Unit {0}
-unfolding seek those any all le puts wordAt put mem upd after zeros allZero signatureLow signatureHigh rightLength isPool marked unmarked targetOf headsFrom walk sizeBad stateBad inPlace listBad faultOf clumpFault secondFault isValid allValid targetFault judge touching unsettled widened answerOf ifSound ifSettled bytesOf createStores needOf clearedWords reserveStores finishActivating finishFreeing activateStores dropStores freeStores releasing runs joining recoverStores reserve openSlot enlist withdraw activate free verdict
+unfolding seek those any all le puts wordAt put mem upd after zeros allZero signatureLow signatureHigh rightLength isPool marked unmarked targetOf headsFrom walk sizeBad stateBad inPlace listBad faultOf clumpFault secondFault isValid allValid targetFault judge touching unsettled widened answerOf ifSound ifSettled bytesOf createStores needOf clearedWords reserveStores finishActivating finishFreeing growStores activateStores dropStores freeStores releasing runs joining recoverStores reserve grown grow openSlot enlist withdraw activate free verdict
 everyRule = tt
 
 abbrev pub Cases : Type 0

@@ -11,16 +11,16 @@ use lib.Dec.{eqb}
 use lib.ListN.{length, getD, take}
 use Rattle.rules.specs.declared.Answer.{Answer}
 use Rattle.rules.specs.declared.Request.{Request}
-use Rattle.rules.specs.declared.Request.the-variants.{Create, Reserve, ReserveUncleared, Onactive, Onfree, Withdraw, Activate, Free, Check, Recover}
+use Rattle.rules.specs.declared.Request.the-variants.{Create, Reserve, ReserveUncleared, Grow, Onactive, Onfree, Withdraw, Activate, Free, Check, Recover}
 use Rattle.rules.specs.Lists.{seek, any, Each}
 use Rattle.rules.specs.Words.{Image, Mem, Store, Bytes, Aligned, mem, wordBytes}
 use Rattle.rules.specs.Pages.{isPool, staticAt, clumpsAt}
-use Rattle.rules.specs.Clumps.{Head, headerBytes, bodyOf, endOf, FREE, RESERVED, hasState, isLive, isWaiting, isPending, Choice, unmarked, due, freed, entriesBy}
+use Rattle.rules.specs.Clumps.{Head, headerBytes, bodyOf, endOf, FREE, RESERVED, ACTIVE, hasState, isLive, isWaiting, isPending, Choice, used, unmarked, due, freed, entriesBy, nextOf}
 use Rattle.rules.specs.Sound.{judge, unsettled}
 use Rattle.rules.specs.Answers.{done, notSound, noRoom, cutShort}
-use Rattle.rules.specs.Stores.{createCount, needOf, leastRest, clearedWords, splitCount, wholeCount, mostActivateCount, mostFreeCount}
+use Rattle.rules.specs.Stores.{createCount, needOf, leastRest, clearedWords, splitCount, wholeCount, freeAfter, splitGrowCount, wholeGrowCount, mostActivateCount, mostFreeCount}
 use Rattle.rules.specs.Requests.{Numbers, Does, reserving, cut, finished, finder, storesFor, answerOn, totalsOn}
-use Rattle.rules.specs.Reading.{clumpsOf, within, inPart, hidden, inSparePage}
+use Rattle.rules.specs.Reading.{clumpsOf, listing, within, inPart, hidden, inSparePage}
 use Rattle.rules.specs.Traces.{isCreate}
 
 -- "Prove that any two outcomes it allows are equal"
@@ -126,6 +126,48 @@ NotCleared =
     → within (bodyOf h) (endOf h) i ≡ true
     → getD x i 0 ≡ getD img i 0
 
+-- W6, grow: the next clump is missing, or is not FREE, or both together do not reach the need
+abbrev pub NoneToTake : ℕ → Head → Option Head → Type 0
+NoneToTake need h none = Unit {0}
+NoneToTake need h (some next) = (next .state ≡ FREE → ⊥) ⊎ (h .nbytes + next .nbytes < need)
+
+-- the earlier tests pass, "the present body" is not enough, and there is none to take
+pub record NoGrowth (img : Image) (offset size : ℕ) : Type 0 where
+  pub settled : Settled img
+  pub asked : 0 < size
+  pub clump : Head
+  pub found : finder (clumpsOf img) offset ≡ some clump
+  pub state : (clump .state ≡ RESERVED) ⊎ (clump .state ≡ ACTIVE)
+  pub less : endOf clump < bodyOf clump + size
+  pub none-left : NoneToTake (needOf size) clump (nextOf (clumpsOf img) clump)
+
+-- W6: "Else answer 5, exactly then"
+abbrev pub GrowRoom : Type 0
+GrowRoom = (img : Image) (offset size fuse : ℕ) → (answerOn img (Grow offset size) fuse .answer ≡ noRoom) ↔ NoGrowth img offset size
+
+-- the clump of img that has its body at an offset stands in x with the same state, the same list and a body of at least the size. "The old
+-- body bytes stay; the added ones aren't cleared": each byte of the body is what it was. It shares no byte with another clump that was live
+pub record Grew (img x : Image) (offset size : ℕ) : Type 0 where
+  pub old : Head
+  pub new : Head
+  pub found : finder (clumpsOf img) offset ≡ some old
+  pub stands : finder (clumpsOf x) offset ≡ some new
+  pub state : new .state ≡ old .state
+  pub list : listing used (mem x) (new .at) ≡ listing used (mem img) (old .at)
+  pub enough : bodyOf new + size ≤ endOf new
+  pub longer : old .nbytes ≤ new .nbytes
+  pub bytes : (i : ℕ) → within (bodyOf new) (endOf new) i ≡ true → getD x i 0 ≡ getD img i 0
+  pub apart : Each (λ k. isLive k ≡ true → (k .at ≡ old .at → ⊥) → Apart new k) (clumpsOf img)
+
+-- W6, after a grow that is done
+abbrev pub Grown : Type 0
+Grown =
+    (img : Image) (offset size fuse : ℕ)
+    → let r = answerOn img (Grow offset size) fuse in
+    Bytes img
+    → r .answer ≡ done
+    → (r .place ≡ offset) × Grew img (finished img (Grow offset size)) offset size
+
 -- the entries that a request carries out in the clump that it finds, if that passes the test, and it is granted
 abbrev pub entriesOf : (Head → Bool) → (Head → Choice) → Mem → Option Head → List Store
 entriesOf t c m none = []
@@ -135,6 +177,7 @@ abbrev pub carriedOut : Mem → List Head → Request → List Store
 carriedOut m hs Create = []
 carriedOut m hs (Reserve size) = []
 carriedOut m hs (ReserveUncleared size) = []
+carriedOut m hs (Grow o size) = []
 carriedOut m hs (Onactive o t v) = []
 carriedOut m hs (Onfree o t v) = []
 carriedOut m hs (Withdraw o) = []
@@ -151,13 +194,26 @@ CountedReserve clears img size r =
     × (needOf size + leastRest ≤ h .nbytes → r .stores ≡ splitCount + clearedWords clears (needOf size))
     × (h .nbytes < needOf size + leastRest → r .stores ≡ wholeCount + clearedWords clears (h .nbytes))
 
--- How many stores a request makes that is done. Create: "1,033 stores." Reserve: as above. Onactive and onfree: "value, then target".
+-- Grow (W6): "If the present body is enough, done with no store. Otherwise .. the rest's header first, then one store"; without a rest the one
+abbrev pub CountedGrow : Image → ℕ → ℕ → Answer → Type 0
+CountedGrow img offset size r =
+    (h : Head)
+    × (finder (clumpsOf img) offset ≡ some h)
+    × (bodyOf h + size ≤ endOf h → r .stores ≡ 0)
+    × (endOf h < bodyOf h + size
+    → (next : Head)
+    × (freeAfter (clumpsOf img) h ≡ some next)
+    × (needOf size + leastRest ≤ h .nbytes + next .nbytes → r .stores ≡ splitGrowCount)
+    × (h .nbytes + next .nbytes < needOf size + leastRest → r .stores ≡ wholeGrowCount))
+
+-- How many stores a request makes that is done. Create: "1,033 stores." Reserve and grow: as above. Onactive and onfree: "value, then target".
 -- Withdraw: "0 to the last used target". Activate: "With e entries this makes 2 + 2e stores, 8 at most", of the unmarked entries (W4).
 -- Free: "At most 7 stores." Of recover no number is given.
 abbrev pub Counted : Image → Request → Answer → Type 0
 Counted img Create r = r .stores ≡ createCount
 Counted img (Reserve size) r = CountedReserve true img size r
 Counted img (ReserveUncleared size) r = CountedReserve false img size r
+Counted img (Grow o size) r = CountedGrow img o size r
 Counted img (Onactive o t v) r = r .stores ≡ 2
 Counted img (Onfree o t v) r = r .stores ≡ 2
 Counted img (Withdraw o) r = r .stores ≡ 1

@@ -9,7 +9,7 @@ use mathlib.Core.List.{List, [], _∷_, _++_, map}
 use lib.Dec.{eqb}
 use lib.ListN.{length}
 use Rattle.rules.specs.declared.Request.{Request}
-use Rattle.rules.specs.declared.Request.the-variants.{Create, Reserve, ReserveUncleared, Onactive, Onfree, Withdraw, Activate, Free, Check, Recover}
+use Rattle.rules.specs.declared.Request.the-variants.{Create, Reserve, ReserveUncleared, Grow, Onactive, Onfree, Withdraw, Activate, Free, Check, Recover}
 use Rattle.rules.specs.Lists.{seek, any, all}
 use Rattle.rules.specs.Words.{Image, Mem, Store, store, mem}
 use Rattle.rules.specs.Pages.{isPool, rightLength}
@@ -17,7 +17,7 @@ use Rattle.rules.specs.Clumps.{Head, FREE, RESERVED, ACTIVATING, ACTIVE,
 use Rattle.rules.specs.Sound.{Fault, faultAt, sizeBad, stateBad, inPlace, secondFault, isValid, orElse, unsettled}
 use Rattle.rules.specs.Answers.{Verdict, granted, refuse, test, testFault, notPool, notSettled, wrongState, badTarget}
 use Rattle.rules.specs.Stores.{emptying, setState, createStores, freeAfter, freeBefore, joinBoth, releasing, released, runs, joining}
-use Rattle.rules.specs.Requests.{reserve, finder, found, listed, withdraw, verdictOn}
+use Rattle.rules.specs.Requests.{reserve, grow, finder, found, listed, withdraw, verdictOn}
 use Rattle.rules.specs.Cases.{everyRule, poolOf, caseH}
 
 -- the entry that stands at s, as the store that it asks for: the target is the word as it stands; and the used entries
@@ -93,11 +93,12 @@ abbrev pub finishing01 : Mem → Option Head → List Store
 finishing01 m none = []
 finishing01 m (some h) = cond (hasState ACTIVATING h) (finishActivating01 m h) (finishFreeing01 m h)
 
--- What 01 calls reserve is what W5 calls its second form.
+-- What 01 calls reserve is what W5 calls its second form. 01 has no grow: W6's rule stands behind 01's tests 1 to 3.
 unfoldable pub verdict01 : ℕ → Mem → Request → Verdict
 verdict01 n m Create = test (not (rightLength n)) notPool (granted 0 (createStores n))
 verdict01 n m (Reserve size) = ifSettled01 n m (reserve false (walk n m) size)
 verdict01 n m (ReserveUncleared size) = ifSettled01 n m (reserve false (walk n m) size)
+verdict01 n m (Grow o size) = ifSettled01 n m (grow (walk n m) o size)
 verdict01 n m (Onactive o t v) = let hs = walk n m in ifSettled01 n m (found (finder hs o) (enlist01 m hs RESERVED o t v))
 verdict01 n m (Onfree o t v) = let hs = walk n m in ifSettled01 n m (found (finder hs o) (enlist01 m hs ACTIVE o t v))
 verdict01 n m (Withdraw o) = ifSettled01 n m (found (finder (walk n m) o) (withdraw m o))
@@ -114,6 +115,7 @@ abbrev pub isAsIn01 : Request → Bool
 isAsIn01 Create = true
 isAsIn01 (Reserve size) = false
 isAsIn01 (ReserveUncleared size) = true
+isAsIn01 (Grow o size) = true
 isAsIn01 (Onactive o t v) = true
 isAsIn01 (Onfree o t v) = false
 isAsIn01 (Withdraw o) = true
@@ -123,8 +125,8 @@ isAsIn01 Check = true
 isAsIn01 Recover = true
 
 -- Modules in the field hold pools written before W4. On every image that 01 calls sound, gaps in an unfinished clump included, each request
--- but onfree and reserve has the verdict of 01's rules, reserve_uncleared that of 01's reserve: so it gets their answer, place and count,
--- and leaves their image, under any fuse.
+-- but onfree and reserve has the verdict of 01's rules, reserve_uncleared that of 01's reserve, and grow (W6) that of its rule behind 01's
+-- tests: so it gets their answer, place and count, and leaves their image, under any fuse.
 abbrev pub AsBefore : Type 0
 AsBefore =
     (img : Image) (q : Request)

@@ -17,4 +17,5 @@ pub mod Samples
 pub mod ReadingSamples
 pub mod MarkSamples
 pub mod ClearSamples
+pub mod GrowSamples
 pub mod Earlier

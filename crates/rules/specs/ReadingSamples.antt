@@ -162,12 +162,12 @@ ReadingSamples =
     × (map inSparePage (0 ∷ 4095 ∷ 4096 ∷ 8191 ∷ 8192 ∷ 12287 ∷ 12288 ∷ []) ≡ true ∷ true ∷ false ∷ false ∷ true ∷ true ∷ false ∷ [])
     -- what a cut request reads as, true for the finished image: with no store made none; with one activate and free, unless free of a
     -- RESERVED clump with a marked entry empties others first (W4); with two that as well
-    × (map (λ p. map (through p 0) (Create ∷ requestsOn 16448)) (kiln [] ∷ mixed ∷ []) ≡ replicate 2 (replicate 10 false))
+    × (map (λ p. map (through p 0) (Create ∷ requestsOn 16448)) (kiln [] ∷ mixed ∷ []) ≡ replicate 2 (replicate 11 false))
     × (map (through (kiln []) 1) (Create ∷ requestsOn 16448)
-    ≡ false ∷ false ∷ false ∷ false ∷ false ∷ false ∷ true ∷ true ∷ false ∷ false ∷ [])
+    ≡ false ∷ false ∷ false ∷ false ∷ false ∷ false ∷ false ∷ true ∷ true ∷ false ∷ false ∷ [])
     × (map (λ k. map (through mixed k) (Create ∷ requestsOn 16448)) (1 ∷ 2 ∷ [])
-    ≡ (false ∷ false ∷ false ∷ false ∷ false ∷ false ∷ true ∷ false ∷ false ∷ false ∷ [])
-    ∷ (false ∷ false ∷ false ∷ false ∷ false ∷ false ∷ true ∷ true ∷ false ∷ false ∷ [])
+    ≡ (false ∷ false ∷ false ∷ false ∷ false ∷ false ∷ false ∷ true ∷ false ∷ false ∷ false ∷ [])
+    ∷ (false ∷ false ∷ false ∷ false ∷ false ∷ false ∷ false ∷ true ∷ true ∷ false ∷ false ∷ [])
     ∷ [])
 
 readingSamples : ReadingSamples

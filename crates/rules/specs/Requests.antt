@@ -1,24 +1,24 @@
--- The verdict on each of the ten requests: its tests by rising number, then its stores (01, "What a request answers" and "Stores and the
--- fuse"; 02, W4 and W5); what the finder answers (02, W7); and what a request makes of an image. Total on any length, any words and any
+-- The verdict on each of the eleven requests: its tests by rising number, then its stores (01, "What a request answers" and "Stores and the
+-- fuse"; 02, W4 to W6); what the finder answers (02, W7); and what a request makes of an image. Total on any length, any words and any
 -- numbers. Assumes nothing.
-use Prim.Native.Nat.{ℕ, _<_}
+use Prim.Native.Nat.{ℕ, _+_, _-_, _<_}
 use mathlib.Core.Path.{_≡_}
 use mathlib.Core.Bool.{Bool, true, false, cond, not}
 use mathlib.Core.Option.{Option, some, none, Option·map}
 use mathlib.Core.List.{List, [], _∷_}
-use lib.Dec.{eqb}
+use lib.Dec.{eqb, leb, ltb}
 use lib.ListN.{length, take}
 use Rattle.rules.specs.declared.Answer.{Answer}
 use Rattle.rules.specs.declared.Totals.{Totals}
 use Rattle.rules.specs.declared.Request.{Request}
-use Rattle.rules.specs.declared.Request.the-variants.{Create, Reserve, ReserveUncleared, Onactive, Onfree, Withdraw, Activate, Free, Check, Recover}
+use Rattle.rules.specs.declared.Request.the-variants.{Create, Reserve, ReserveUncleared, Grow, Onactive, Onfree, Withdraw, Activate, Free, Check, Recover}
 use Rattle.rules.specs.Lists.{seek, any}
 use Rattle.rules.specs.Words.{Image, Mem, Store, mem, carry, wordValues}
 use Rattle.rules.specs.Pages.{rightLength}
-use Rattle.rules.specs.Clumps.{Head, bodyOf, RESERVED, hasState, isWaiting, isUsed, slots, used, unmarked, freed, withMark, slotsBy, walk, beforeOf, offsetOf}
+use Rattle.rules.specs.Clumps.{Head, headerBytes, bodyOf, RESERVED, hasState, isWaiting, isUsed, slots, used, unmarked, freed, withMark, slotsBy, walk, beforeOf, offsetOf}
 use Rattle.rules.specs.Sound.{isValid, allValid}
 use Rattle.rules.specs.Answers.{Verdict, granted, refuse, test, ifSound, ifSettled, notPool, sizeZero, noRoom, noClump, wrongState, listFull, listEmpty, badTarget, storesOf, answerOf, totalsFor}
-use Rattle.rules.specs.Stores.{createStores, needOf, fits, reserveStores, listStores, withdrawStores, activateStores, freeStores, recoverStores}
+use Rattle.rules.specs.Stores.{createStores, needOf, fits, reserveStores, growStores, freeAfter, listStores, withdrawStores, activateStores, freeStores, recoverStores}
 
 -- reserve, in both forms (W5): 4 for size 0, 5 where "the scan stops" at no clump; the place is "the body's offset"
 abbrev pub placed : Bool → ℕ → Option Head → Verdict
@@ -47,6 +47,22 @@ belowOf hs h = offsetOf 0 (beforeOf hs h)
 
 abbrev pub finding : List Head → ℕ → Option (ℕ × ℕ)
 finding hs offset = Option·map (λ h. (h .at, belowOf hs h)) (finder hs offset)
+
+-- grow (W6): "If the present body is enough, done with no store. Otherwise, if the next clump is FREE and both together reach the need, take
+-- it .. Else answer 5, exactly then."
+abbrev pub enlarged : ℕ → ℕ → Head → Option Head → Verdict
+enlarged offset need h none = refuse noRoom
+enlarged offset need h (some next) = test (ltb (h .nbytes + next .nbytes) need) noRoom (granted offset (growStores need h next))
+
+-- on a clump: 7 unless it is "RESERVED or ACTIVE"
+unfoldable pub grown : List Head → ℕ → ℕ → Head → Verdict
+grown hs offset size h =
+    test (not (isWaiting h)) wrongState
+    (cond (leb size (h .nbytes - headerBytes)) (granted offset []) (enlarged offset (needOf size) h (freeAfter hs h)))
+
+-- "Size 0 is 4; here 6 and 7 are tested before 5."
+unfoldable pub grow : List Head → ℕ → ℕ → Verdict
+grow hs offset size = test (eqb size 0) sizeZero (found (finder hs offset) (grown hs offset size))
 
 -- W4: "A new entry goes after the last used one, answer 8 if that is the third": the first entry from which on none is used
 unfoldable pub openSlot : Mem → List ℕ → Option ℕ
@@ -90,6 +106,7 @@ unfoldable pub verdict : ℕ → Mem → Request → Verdict
 verdict n m Create = test (not (rightLength n)) notPool (granted 0 (createStores n))
 verdict n m (Reserve size) = ifSettled n m (reserve true (walk n m) size)
 verdict n m (ReserveUncleared size) = ifSettled n m (reserve false (walk n m) size)
+verdict n m (Grow o size) = ifSettled n m (grow (walk n m) o size)
 verdict n m (Onactive o t v) = let hs = walk n m in ifSettled n m (found (finder hs o) (enlist m hs (hasState RESERVED) o t t v))
 verdict n m (Onfree o t v) = let hs = walk n m in ifSettled n m (found (finder hs o) (enlist m hs isWaiting o t (withMark t) v))
 verdict n m (Withdraw o) = ifSettled n m (found (finder (walk n m) o) (withdraw m o))
@@ -103,6 +120,7 @@ abbrev pub Numbers : Request → Type 0
 Numbers Create = Unit {0}
 Numbers (Reserve size) = size < wordValues
 Numbers (ReserveUncleared size) = size < wordValues
+Numbers (Grow o size) = (o < wordValues) × (size < wordValues)
 Numbers (Onactive o t v) = (o < wordValues) × (t < wordValues) × (v < wordValues)
 Numbers (Onfree o t v) = (o < wordValues) × (t < wordValues) × (v < wordValues)
 Numbers (Withdraw o) = o < wordValues

@@ -9,7 +9,7 @@ use mathlib.Core.List.{List, [], _∷_, _++_, map}
 use lib.ListN.{replicate, getD}
 use Rattle.rules.specs.declared.Request.{Request}
 use Rattle.rules.specs.declared.Totals.{Totals}
-use Rattle.rules.specs.declared.Request.the-variants.{Create, Reserve, ReserveUncleared, Onactive, Onfree, Withdraw, Activate, Free, Check, Recover}
+use Rattle.rules.specs.declared.Request.the-variants.{Create, Reserve, ReserveUncleared, Grow, Onactive, Onfree, Withdraw, Activate, Free, Check, Recover}
 use Rattle.rules.specs.Words.{store, put, mem}
 use Rattle.rules.specs.Pages.{signatureLow, signatureHigh, rightLength}
 use Rattle.rules.specs.Clumps.{walk}
@@ -32,7 +32,7 @@ placeOf p q = answerIn longest p q .place
 
 -- each request but create, on the clump that has its body at o
 abbrev pub requestsOn : ℕ → List Request
-requestsOn o = Reserve 1 ∷ ReserveUncleared 1 ∷ Onactive o 4096 1 ∷ Onfree o 4096 1 ∷ Withdraw o ∷ Activate o ∷ Free o ∷ Check ∷ Recover ∷ []
+requestsOn o = Reserve 1 ∷ ReserveUncleared 1 ∷ Grow o 1 ∷ Onactive o 4096 1 ∷ Onfree o 4096 1 ∷ Withdraw o ∷ Activate o ∷ Free o ∷ Check ∷ Recover ∷ []
 
 -- check's totals
 abbrev pub totalled : Pool → Totals
@@ -105,13 +105,13 @@ Samples =
     × (map (isValid (walk 16640 (listing 3 (0, 0, 0) .1))) (4088 ∷ 4096 ∷ 8184 ∷ 8192 ∷ 16440 ∷ 16448 ∷ 16452 ∷ 16504 ∷ 16512 ∷ 16576 ∷ [])
     ≡ false ∷ true ∷ true ∷ false ∷ false ∷ true ∷ false ∷ true ∷ false ∷ false ∷ [])
     -- answer 3: two FREE touch, or a clump is ACTIVATING, or FREEING; before 4, and never of check and recover
-    × (map (answered (poolOf ((128, 0) ∷ (128, 0) ∷ []) [])) (Reserve 0 ∷ ReserveUncleared 0 ∷ requestsOn 16448)
-    ≡ 3 ∷ 3 ∷ 3 ∷ 3 ∷ 3 ∷ 3 ∷ 3 ∷ 3 ∷ 3 ∷ 0 ∷ 0 ∷ [])
+    × (map (answered (poolOf ((128, 0) ∷ (128, 0) ∷ []) [])) (Reserve 0 ∷ ReserveUncleared 0 ∷ Grow 16448 0 ∷ requestsOn 16448)
+    ≡ 3 ∷ 3 ∷ 3 ∷ 3 ∷ 3 ∷ 3 ∷ 3 ∷ 3 ∷ 3 ∷ 3 ∷ 3 ∷ 0 ∷ 0 ∷ [])
     × (map (λ s. map (answered (listing s (0, 0, 0))) (Reserve 1 ∷ Withdraw 16448 ∷ Free 16448 ∷ Check ∷ Recover ∷ [])) (2 ∷ 4 ∷ [])
     ≡ replicate 2 (3 ∷ 3 ∷ 3 ∷ 0 ∷ 0 ∷ []))
     -- answers 4, 6 and 7, with FREE 128 and ACTIVE 128
-    × (map (answered (poolOf ((128, 0) ∷ (128, 3) ∷ []) [])) (Reserve 0 ∷ ReserveUncleared 0 ∷ Activate 16384 ∷ Activate 16448 ∷ Free 16448 ∷ Withdraw 16448 ∷ Activate 16576 ∷ Onactive 16576 4096 1 ∷ [])
-    ≡ 4 ∷ 4 ∷ 6 ∷ 7 ∷ 7 ∷ 7 ∷ 7 ∷ 7 ∷ [])
+    × (map (answered (poolOf ((128, 0) ∷ (128, 3) ∷ []) [])) (Reserve 0 ∷ ReserveUncleared 0 ∷ Grow 16384 0 ∷ Grow 16384 1 ∷ Grow 16448 longest ∷ Activate 16384 ∷ Activate 16448 ∷ Free 16448 ∷ Withdraw 16448 ∷ Activate 16576 ∷ Onactive 16576 4096 1 ∷ [])
+    ≡ 4 ∷ 4 ∷ 4 ∷ 6 ∷ 7 ∷ 6 ∷ 7 ∷ 7 ∷ 7 ∷ 7 ∷ 7 ∷ [])
     -- answers 8, 9 and 10 on a RESERVED clump: its list full, then empty
     × (map (answered (listing 1 (4096, 4096, 4096))) (Onfree 16448 4096 1 ∷ Onactive 16448 8192 1 ∷ Withdraw 16448 ∷ []) ≡ 8 ∷ 8 ∷ 0 ∷ [])
     × (map (answered (listing 1 (0, 0, 0))) (Withdraw 16448 ∷ Onactive 16448 8192 1 ∷ Onactive 16448 16504 1 ∷ Free 16448 ∷ []) ≡ 9 ∷ 10 ∷ 0 ∷ 0 ∷ [])

@@ -1,4 +1,4 @@
--- The list of stores of each request (01, "Stores and the fuse"; 02, W4 and W5). A list reads the memory before the request alone.
+-- The list of stores of each request (01, "Stores and the fuse"; 02, W4 to W6). A list reads the memory before the request alone.
 -- Assumes nothing.
 use Prim.Native.Nat.{ℕ, _+_, _-_, _*_, _/_}
 use mathlib.Core.Bool.{Bool, cond, _&&_, _||_}
@@ -136,6 +136,21 @@ freeAfter hs h = ifFree (nextOf hs h)
 
 abbrev pub freeBefore : List Head → Head → Option Head
 freeBefore hs h = ifFree (beforeOf hs h)
+
+-- W6, a clump grows into the next one, which is FREE: "splitting off a rest by reserve's rule: the rest's header first, then one store of the
+-- grown nbytes"; without a rest that of both together
+unfoldable pub growStores : ℕ → Head → Head → List Store
+growStores need h next =
+    let a = h .at in
+    let both = h .nbytes + next .nbytes in
+    cond (isSplit need both) (restHeader (a + need) (both - need) ++ (store a need ∷ [])) (store a both ∷ [])
+
+-- "the rest's header first, then one store": three stores, or the one
+abbrev pub splitGrowCount : ℕ
+splitGrowCount = 3
+
+abbrev pub wholeGrowCount : ℕ
+wholeGrowCount = 1
 
 -- "Then, if the next clump is FREE, nbytes = both; then, if the one before is FREE, its nbytes = all."
 abbrev pub joinBefore : Option Head → ℕ → List Store

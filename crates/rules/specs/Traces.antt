@@ -1,5 +1,5 @@
 -- Histories of a pool: requests, finished or cut, recoveries, finished or cut, and the owner's writes (the demands' third); at which
--- store a request turns (01; 02, W4).
+-- store a request turns (01; 02, W4 and W6).
 -- Assumes nothing.
 use Prim.Native.Nat.{ℕ}
 use mathlib.Core.Path.{_≡_}
@@ -9,7 +9,7 @@ use mathlib.Core.List.{List}
 use lib.Dec.{ltb}
 use lib.ListN.{length, getD}
 use Rattle.rules.specs.declared.Request.{Request}
-use Rattle.rules.specs.declared.Request.the-variants.{Create, Reserve, ReserveUncleared, Onactive, Onfree, Withdraw, Activate, Free, Check, Recover}
+use Rattle.rules.specs.declared.Request.the-variants.{Create, Reserve, ReserveUncleared, Grow, Onactive, Onfree, Withdraw, Activate, Free, Check, Recover}
 use Rattle.rules.specs.Words.{Image, Mem, Bytes, mem}
 use Rattle.rules.specs.Pages.{rightLength}
 use Rattle.rules.specs.Clumps.{Head, ACTIVE, hasState, unmarked, slotsBy}
@@ -33,6 +33,7 @@ abbrev pub isCreate : Request → Bool
 isCreate Create = true
 isCreate (Reserve size) = false
 isCreate (ReserveUncleared size) = false
+isCreate (Grow o size) = false
 isCreate (Onactive o t v) = false
 isCreate (Onfree o t v) = false
 isCreate (Withdraw o) = false
@@ -73,6 +74,7 @@ abbrev pub isThrough : Mem → List Head → Request → ℕ → Bool
 isThrough m hs Create k = false
 isThrough m hs (Reserve size) k = false
 isThrough m hs (ReserveUncleared size) k = false
+isThrough m hs (Grow o size) k = false
 isThrough m hs (Onactive o t v) k = false
 isThrough m hs (Onfree o t v) k = false
 isThrough m hs (Withdraw o) k = false
@@ -83,6 +85,6 @@ isThrough m hs Recover k = false
 
 -- "After a cut and recovery, the reading equals that of recovering the image before the request, if the cut fell in reserve,
 -- onactive, onfree, withdraw or recover, or before the first store. It equals that of recovering the finished image if .. ": the image
--- that is recovered, after a cut behind k stores
+-- that is recovered, after a cut behind k stores. W6, of grow: "Cut before the nbytes store, it reads as not asked", and that is its last.
 abbrev pub asIf : Image → Request → ℕ → Image
 asIf img q k = cond (isThrough (mem img) (clumpsOf img) q k) (finished img q) img

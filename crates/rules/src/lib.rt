@@ -49,13 +49,17 @@ pub struct Totals {
     pub freeing: u64,
 }
 
-// The ten requests, each with the numbers asked. An offset is that of a body.
+// The eleven requests, each with the numbers asked. An offset is that of a body.
 pub enum Request {
     Create,
     Reserve {
         size: u64,
     },
     ReserveUncleared {
+        size: u64,
+    },
+    Grow {
+        offset: u64,
         size: u64,
     },
     Onactive {

@@ -12,7 +12,7 @@ use lib.Dec.{eqb}
 use lib.ListN.{length}
 use borrow.Author.Tests.{eqb-true, ne-eqb, not-false}
 use Rattle.rules.specs.declared.Request.{Request}
-use Rattle.rules.specs.declared.Request.the-variants.{Create, Reserve, ReserveUncleared, Onactive, Onfree, Withdraw, Activate, Free, Check, Recover}
+use Rattle.rules.specs.declared.Request.the-variants.{Create, Reserve, ReserveUncleared, Grow, Onactive, Onfree, Withdraw, Activate, Free, Check, Recover}
 use Rattle.rules.specs.Lists.{seek, those, any, all, Each}
 use Rattle.rules.specs.Words.{Mem, Store, store, mem, wordBytes}
 use Rattle.rules.specs.Clumps.{Head, RESERVED, ACTIVATING, ACTIVE, FREE, hasState, isWaiting, isPending, isEmpty, isUsed, used, marked, unmarked, due, bitValues, mark, slots, slotsBy, valueAt, targetAt, entry, entriesBy, walk}
@@ -290,6 +290,7 @@ module _ (n : ℕ) (m : Mem) (s : judge01 n m ≡ none) where
   verdict-same Create e = refl
   verdict-same (Reserve size) e = differ e refl
   verdict-same (ReserveUncleared size) e = settled-same _ _ refl
+  verdict-same (Grow o size) e = settled-same _ _ refl
   verdict-same (Onactive o t v) e = asked-same o _ _ (λ h f. go h f (hasState RESERVED h) refl)
     where
       go : (h : Head) → Fine n m h → (b : Bool) → hasState RESERVED h ≡ b → enlist m hs (hasState RESERVED) o t t v h ≡ enlist01 m hs RESERVED o t v h

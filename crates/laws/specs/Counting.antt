@@ -9,22 +9,23 @@ use native.Mathlib.Omega.{arith}
 use lib.ListN.{length, length-append, length-map}
 use borrow.Author.Tests.{le-leb, lt-leb}
 use Rattle.rules.specs.declared.Request.{Request}
-use Rattle.rules.specs.declared.Request.the-variants.{Create, Reserve, ReserveUncleared, Onactive, Onfree, Withdraw, Activate, Free, Check, Recover}
+use Rattle.rules.specs.declared.Request.the-variants.{Create, Reserve, ReserveUncleared, Grow, Onactive, Onfree, Withdraw, Activate, Free, Check, Recover}
 use Rattle.rules.specs.Lists.{those}
 use Rattle.rules.specs.Words.{Image, Mem, Store, store, mem}
 use Rattle.rules.specs.Pages.{clumpsAt}
-use Rattle.rules.specs.Clumps.{Head, hasState, slots, Choice, used, marked, unmarked, slotsBy, entry, entriesBy, FREE, ACTIVE, FREEING}
+use Rattle.rules.specs.Clumps.{Head, bodyOf, endOf, hasState, slots, Choice, used, marked, unmarked, slotsBy, entry, entriesBy, FREE, ACTIVE, FREEING}
 use Rattle.rules.specs.Answers.{flushOf, answerAt}
-use Rattle.rules.specs.Stores.{setState, leastRest, clearedWords, reserveStores, splitCount, wholeCount, finishActivating, finishFreeing, activateStores, hasMarked, dropStores, emptying, joinBefore, joinBoth, freeAfter, freeBefore, freeStores, needOf, fits}
+use Rattle.rules.specs.Stores.{setState, leastRest, clearedWords, reserveStores, splitCount, wholeCount, finishActivating, finishFreeing, activateStores, hasMarked, dropStores, emptying, joinBefore, joinBoth, freeAfter, freeBefore, freeStores, needOf, fits, growStores, splitGrowCount, wholeGrowCount}
 use Rattle.rules.specs.Reading.{clumpsOf}
-use Rattle.rules.specs.Demands.{CountedReserve, Counted, Counts}
+use Rattle.rules.specs.Demands.{CountedReserve, CountedGrow, Counted, Counts}
 use Rattle.laws.specs.Searches.{differ, those-few}
 use Rattle.laws.specs.Choices.{marked-apart}
 use Rattle.laws.specs.Tilings.{found-again}
 use Rattle.laws.specs.Pools.{pool-tiles}
+use Rattle.laws.specs.Lying.{Lies, found-lies}
 use Rattle.laws.specs.Clearing.{length-zeros}
 use Rattle.laws.specs.Founding.{create-length}
-use Rattle.laws.specs.Granted.{Reserves, Grants, done-granted}
+use Rattle.laws.specs.Granted.{Reserves, Enlarges, enough, takes, Grows, Grants, done-granted}
 
 -- a clump that is split, and one that is used whole
 split-length : (clears : Bool) (need : ℕ) (h : Head) → need + leastRest ≤ h .nbytes → length (reserveStores clears need h) ≡ splitCount + clearedWords clears need
@@ -111,10 +112,33 @@ reserve-counted clears img size p st g = (
   (λ l. ap length (g .stores) ∙ whole-length clears (needOf size) (g .clump) l),
 )
 
+-- of grow
+grow-counted : (img : Image) (o size p : ℕ) (st : List Store) → Grows (length img) (mem img) o size p st → CountedGrow img o size (answerAt false p (length st) (flushOf st))
+grow-counted img o size p st g = let x = go (g .stores) in (g .clump, g .found, x .0, x .1)
+  where
+    l : Lies (length img) (g .clump)
+    l = found-lies (length img) (mem img) (g .sound) _ (g .clump) (g .found)
+
+    go :
+        {st : List Store}
+        → Enlarges (length img) (mem img) size (g .clump) st
+        → (bodyOf (g .clump) + size ≤ endOf (g .clump) → length st ≡ 0)
+        × (endOf (g .clump) < bodyOf (g .clump) + size
+        → (next : Head)
+        × (freeAfter (clumpsOf img) (g .clump) ≡ some next)
+        × (needOf size + leastRest ≤ g .clump .nbytes + next .nbytes → length st ≡ splitGrowCount)
+        × (g .clump .nbytes + next .nbytes < needOf size + leastRest → length st ≡ wholeGrowCount))
+    go (enough e) = ((λ i. refl), (λ i. absurd (omega (arith, e, l .least))))
+    go (takes next e f r) = (
+      (λ i. absurd (omega (arith, e, l .least))),
+      (λ i. (next, f, (λ d. unfold growStores in rw (le-leb leastRest (g .clump .nbytes + next .nbytes - needOf size) (omega arith))), (λ d. unfold growStores in rw (lt-leb leastRest (g .clump .nbytes + next .nbytes - needOf size) (omega arith))))),
+    )
+
 counted : (img : Image) (q : Request) (p : ℕ) (st : List Store) → Grants (length img) (mem img) q p st → Counted img q (answerAt false p (length st) (flushOf st))
 counted img Create p st e = ap length e ∙ create-length (length img)
 counted img (Reserve size) p st g = reserve-counted true img size p st g
 counted img (ReserveUncleared size) p st g = reserve-counted false img size p st g
+counted img (Grow o size) p st g = grow-counted img o size p st g
 counted img (Onactive o t v) p st g = ap length (g .1)
 counted img (Onfree o t v) p st g = ap length (g .1)
 counted img (Withdraw o) p st g = ap length (g .2)

@@ -1,26 +1,27 @@
 -- The shape of every verdict: it refuses with one of the answers 1 to 10, or it grants what the request's tests led to. So a request
 -- that is done was granted, and its answer has the grant's place and counts all of its stores. By cases on the tests. Assumes nothing.
-use Prim.Native.Nat.{ℕ, _<_}
+use Prim.Native.Nat.{ℕ, _+_, _-_, _<_, _≤_}
 use mathlib.Core.Path.{_≡_, refl, ap}
-use mathlib.Core.Bool.{Bool, true, false, not}
+use mathlib.Core.Bool.{Bool, true, false, cond, not}
 use mathlib.Core.Option.{Option, some, none}
 use mathlib.Core.List.{List, [], _∷_}
 use native.Mathlib.Omega.{arith}
-use lib.Dec.{eqb, ltb}
+use lib.Dec.{eqb, ltb, leb}
 use lib.ListN.{length, take}
 use lib.Seq.{take-all}
-use borrow.Author.Tests.{ltb-false, eqb-false, not-false}
+use borrow.Author.Tests.{ltb-false, leb-true, leb-false, eqb-false, not-false}
 use Rattle.rules.specs.declared.Request.{Request}
-use Rattle.rules.specs.declared.Request.the-variants.{Create, Reserve, ReserveUncleared, Onactive, Onfree, Withdraw, Activate, Free, Check, Recover}
+use Rattle.rules.specs.declared.Request.the-variants.{Create, Reserve, ReserveUncleared, Grow, Onactive, Onfree, Withdraw, Activate, Free, Check, Recover}
 use Rattle.rules.specs.Lists.{seek}
 use Rattle.rules.specs.Words.{Image, Mem, Store, mem}
 use Rattle.rules.specs.Pages.{isPool, rightLength}
-use Rattle.rules.specs.Clumps.{Head, bodyOf, RESERVED, hasState, isWaiting, slots, used, unmarked, withMark, freed, slotsBy, walk}
+use Rattle.rules.specs.Clumps.{Head, headerBytes, bodyOf, RESERVED, hasState, isWaiting, slots, used, unmarked, withMark, freed, slotsBy, walk}
 use Rattle.rules.specs.Sound.{Fault, judge, unsettled, isValid, allValid}
-use Rattle.rules.specs.Answers.{done, notPool, notSound, notSettled, sizeZero, wrongState, badTarget, cutShort, Verdict, refused, granted, test, testFault, flushOf, answerAt, answerOf, ifSound, ifSettled}
-use Rattle.rules.specs.Stores.{createStores, needOf, fits, reserveStores, listStores, withdrawStores, activateStores, freeStores, recoverStores}
-use Rattle.rules.specs.Requests.{placed, reserve, reserving, finder, found, listed, openSlot, enlist, withdrawn, withdraw, activate, free, verdict, verdictOn, answerOn}
+use Rattle.rules.specs.Answers.{done, notPool, notSound, notSettled, sizeZero, noRoom, wrongState, badTarget, cutShort, Verdict, refused, granted, test, testFault, flushOf, answerAt, answerOf, ifSound, ifSettled}
+use Rattle.rules.specs.Stores.{createStores, needOf, fits, reserveStores, growStores, freeAfter, listStores, withdrawStores, activateStores, freeStores, recoverStores}
+use Rattle.rules.specs.Requests.{placed, reserve, reserving, enlarged, grown, grow, finder, found, listed, openSlot, enlist, withdrawn, withdraw, activate, free, verdict, verdictOn, answerOn}
 use Rattle.laws.specs.Pools.{Sound}
+use Rattle.laws.specs.Behind.{through-test, through-sound, through-settled, through-found}
 
 -- a refusal has one of the answers 1 to 10, and a fault with answer 2 alone; of a grant's place and stores G holds
 module _ (G : ℕ → List Store → Type 0) where
@@ -29,26 +30,17 @@ module _ (G : ℕ → List Store → Type 0) where
   Fair (granted p st) = G p st
 
   fair-test : (b : Bool) (a : ℕ) (v : Verdict) → done < a → a < cutShort → (b ≡ false → Fair v) → Fair (test b a v)
-  fair-test true a v l u k = (l, u, λ e. refl)
-  fair-test false a v l u k = k refl
-
-  fair-fault : (o : Option Fault) (v : Verdict) → (o ≡ none → Fair v) → Fair (testFault o v)
-  fair-fault none v k = k refl
-  fair-fault (some f) v k = (omega arith, omega arith, λ e. absurd (e refl))
+  fair-test b a v l u k = through-test Fair b a v (l, u, λ e. refl) k
 
   fair-sound : (n : ℕ) (m : Mem) (v : Verdict) → (Sound n m → Fair v) → Fair (ifSound n m v)
-  unfolding ifSound
-  fair-sound n m v k =
-      fair-test (not (isPool n m)) notPool _ (omega arith) (omega arith)
-      (λ p. fair-fault (judge n m) v (λ j. k (record { pool = not-false _ p; sound = j })))
+  fair-sound n m v k = through-sound Fair n m v (omega arith, omega arith, λ e. refl) (λ f. (omega arith, omega arith, λ e. absurd (e refl))) k
 
   fair-settled : (n : ℕ) (m : Mem) (v : Verdict) → (Sound n m → unsettled (walk n m) ≡ false → Fair v) → Fair (ifSettled n m v)
-  unfolding ifSettled
-  fair-settled n m v k = fair-sound n m _ (λ s. fair-test (unsettled (walk n m)) notSettled v (omega arith) (omega arith) (k s))
+  fair-settled n m v k =
+      through-settled Fair n m v (omega arith, omega arith, λ e. refl) (λ f. (omega arith, omega arith, λ e. absurd (e refl))) (omega arith, omega arith, λ e. refl) k
 
   fair-found : (o : Option Head) (go : Head → Verdict) → ((h : Head) → o ≡ some h → Fair (go h)) → Fair (found o go)
-  fair-found none go k = (omega arith, omega arith, λ e. refl)
-  fair-found (some h) go k = k h refl
+  fair-found o go k = through-found Fair o go (omega arith, omega arith, λ e. refl) k
 
   -- a request on the clump that has its body at o
   fair-asked : (n : ℕ) (m : Mem) (o : ℕ) (go : Head → Verdict) → ((h : Head) → finder (walk n m) o ≡ some h → Fair (go h)) → Fair (ifSettled n m (found (finder (walk n m) o) go))
@@ -64,6 +56,22 @@ pub record Reserves (clears : Bool) (n : ℕ) (m : Mem) (size p : ℕ) (st : Lis
   pub place : p ≡ bodyOf clump
   pub stores : st ≡ reserveStores clears (needOf size) clump
 
+-- what grow stores for a clump: nothing where its body is enough, else what takes the FREE clump behind it
+pub data Enlarges (n : ℕ) (m : Mem) (size : ℕ) (h : Head) : List Store → Type 0 where
+  enough : size ≤ h .nbytes - headerBytes → Enlarges n m size h []
+  takes : (next : Head) → h .nbytes - headerBytes < size → freeAfter (walk n m) h ≡ some next → needOf size ≤ h .nbytes + next .nbytes → Enlarges n m size h (growStores (needOf size) h next)
+
+-- what grow grants, with the place p and the stores st
+pub record Grows (n : ℕ) (m : Mem) (offset size p : ℕ) (st : List Store) : Type 0 where
+  pub sound : Sound n m
+  pub calm : unsettled (walk n m) ≡ false
+  pub asked : size ≡ 0 → ⊥
+  pub clump : Head
+  pub found : finder (walk n m) offset ≡ some clump
+  pub waits : isWaiting clump ≡ true
+  pub place : p ≡ offset
+  pub stores : Enlarges n m size clump st
+
 -- what onactive and onfree grant, and withdraw, whichever entry it is
 abbrev pub Enlists : ℕ → ℕ → ℕ → List Store → Type 0
 Enlists t v p st = (s : ℕ) × (st ≡ listStores s t v)
@@ -76,6 +84,7 @@ abbrev pub Grants : ℕ → Mem → Request → ℕ → List Store → Type 0
 Grants n m Create p st = st ≡ createStores n
 Grants n m (Reserve size) p st = Reserves true n m size p st
 Grants n m (ReserveUncleared size) p st = Reserves false n m size p st
+Grants n m (Grow o size) p st = Grows n m o size p st
 Grants n m (Onactive o t v) p st = Enlists t v p st
 Grants n m (Onfree o t v) p st = Enlists (withMark t) v p st
 Grants n m (Withdraw o) p st = Withdraws p st
@@ -94,6 +103,31 @@ fair-reserve clears n m size =
     go : Sound n m → unsettled (walk n m) ≡ false → (size ≡ 0 → ⊥) → (o : Option Head) → seek (fits (needOf size)) (walk n m) ≡ o → Fair (Reserves clears n m size) (placed clears (needOf size) o)
     go s u z none e = (omega arith, omega arith, λ i. refl)
     go s u z (some h) e = record { sound = s; calm = u; asked = z; clump = h; found = e; place = refl; stores = refl }
+
+fair-grow : (n : ℕ) (m : Mem) (o size : ℕ) → Fair (Grows n m o size) (ifSettled n m (grow (walk n m) o size))
+unfolding grow grown
+fair-grow n m o size =
+    fair-settled G n m _
+    (λ s u. fair-test G (eqb size 0) sizeZero _ (omega arith) (omega arith)
+    (λ z. fair-found G (finder (walk n m) o) _
+    (λ h e. fair-test G (not (isWaiting h)) wrongState _ (omega arith) (omega arith)
+    (λ w. go s u (eqb-false size 0 z) h e (not-false _ w) (leb size (h .nbytes - headerBytes)) refl))))
+  where
+    G : ℕ → List Store → Type 0
+    G = Grows n m o size
+
+    by : Sound n m → unsettled (walk n m) ≡ false → (size ≡ 0 → ⊥) → (h : Head) → finder (walk n m) o ≡ some h → isWaiting h ≡ true → (st : List Store) → Enlarges n m size h st → Grows n m o size o st
+    by s u z h e w st x = record { sound = s; calm = u; asked = z; clump = h; found = e; waits = w; place = refl; stores = x }
+
+    go : Sound n m → unsettled (walk n m) ≡ false → (size ≡ 0 → ⊥) → (h : Head) → finder (walk n m) o ≡ some h → isWaiting h ≡ true → (b : Bool) → leb size (h .nbytes - headerBytes) ≡ b → Fair (Grows n m o size) (cond b (granted o []) (enlarged o (needOf size) h (freeAfter (walk n m) h)))
+    go s u z h e w true q = by s u z h e w [] (enough (leb-true size _ q))
+    go s u z h e w false q = into (freeAfter (walk n m) h) refl
+      where
+        into : (c : Option Head) → freeAfter (walk n m) h ≡ c → Fair (Grows n m o size) (enlarged o (needOf size) h c)
+        into none f = (omega arith, omega arith, λ i. refl)
+        into (some next) f =
+            fair-test (Grows n m o size) (ltb (h .nbytes + next .nbytes) (needOf size)) noRoom _ (omega arith) (omega arith)
+            (λ l. by s u z h e w _ (takes next (leb-false size _ q) f (ltb-false _ (needOf size) l)))
 
 fair-listed : (b : Bool) (o : Option ℕ) (p t v : ℕ) → Fair (Enlists t v) (listed b o p t v)
 fair-listed b none p t v = (omega arith, omega arith, λ e. refl)
@@ -114,6 +148,7 @@ unfolding verdict withdraw activate free
 fair n m Create = fair-test (Grants n m Create) (not (rightLength n)) notPool _ (omega arith) (omega arith) (λ z. refl)
 fair n m (Reserve size) = fair-reserve true n m size
 fair n m (ReserveUncleared size) = fair-reserve false n m size
+fair n m (Grow o size) = fair-grow n m o size
 fair n m (Onactive o t v) = fair-asked (Enlists t v) n m o _ (λ h e. fair-enlist m (walk n m) (hasState RESERVED) o t t v h)
 fair n m (Onfree o t v) = fair-asked (Enlists (withMark t) v) n m o _ (λ h e. fair-enlist m (walk n m) isWaiting o t (withMark t) v h)
 fair n m (Withdraw o) =

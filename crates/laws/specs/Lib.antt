@@ -16,6 +16,7 @@ pub mod Mending
 pub mod Joins
 pub mod Granted
 pub mod Served
+pub mod Growth
 pub mod Needs
 pub mod Behind
 pub mod Lying

@@ -105,7 +105,7 @@ reserve-served img clears size s l =
     rw (reserving-is (length img) (mem img) clears size, s .pool, s .sound, s .calm, ne-eqb size 0 (λ e. absurd (omega arith)))
 
 -- a grant is not "no room"
-granted-room : (b : Bool) (p k : ℕ) (r : Flush) → answerAt b p k r .answer ≡ noRoom → ⊥
+pub granted-room : (b : Bool) (p k : ℕ) (r : Flush) → answerAt b p k r .answer ≡ noRoom → ⊥
 granted-room true p k r z = omega arith
 granted-room false p k r z = omega arith
 

@@ -1,4 +1,4 @@
--- What a clump takes: the stores into one header, into the FREE clump that is split, and those that join clumps. What holds of every
+-- What a clump takes: the stores into one header, into the FREE clump that is split or taken, and those that join clumps. What holds of every
 -- store to a word of a header, and of a FREE clump, holds of each of them. By arithmetic on the offsets. Assumes nothing.
 use Prim.Native.Nat.{ℕ, _+_, _-_, _%_, _<_, _≤_}
 use mathlib.Core.Path.{_≡_, refl}
@@ -13,7 +13,7 @@ use Rattle.rules.specs.Words.{Mem, Store, store, wordBytes, wordValues}
 use Rattle.rules.specs.Pages.{unit}
 use Rattle.rules.specs.Clumps.{Head, headerBytes, bodyOf, endOf, isFree, slots, valueAt, Choice, unmarked, slotsBy, entriesBy, stateAt, FREE, RESERVED, ACTIVE, FREEING}
 use Rattle.rules.specs.Answers.{storesOf, badTarget, bytesOf}
-use Rattle.rules.specs.Stores.{emptying, setState, leastRest, clearing, taking, reserveStores, lastOf, finishActivating, finishFreeing, joinBefore, joinBoth, Run, joinRun, joining}
+use Rattle.rules.specs.Stores.{emptying, setState, leastRest, isSplit, restHeader, clearing, taking, reserveStores, growStores, lastOf, finishActivating, finishFreeing, joinBefore, joinBoth, Run, joinRun, joining}
 use Rattle.rules.specs.Requests.{listed, withdrawn}
 use Rattle.laws.specs.Searches.{those-each, each-append, each-map, map-each, last-each}
 use Rattle.laws.specs.Behind.{behind-test}
@@ -61,7 +61,7 @@ module _ (P : Store → Type 0) (N : Type 0) (n : ℕ) where
   -- reserve, in the FREE clump that was found, in either form
   pub reserve-lands : (clears : Bool) (need : ℕ) (h : Head) → In h → isFree h ≡ true → need % unit ≡ 0 → headerBytes ≤ need → need ≤ h .nbytes → Each P (reserveStores clears need h)
   unfolding reserveStores
-  reserve-lands clears need h t f e g l = go (leb leastRest (h .nbytes - need)) refl
+  reserve-lands clears need h t f e g l = go (isSplit need (h .nbytes)) refl
     where
       emptied : Each P (emptying (slots (h .at)))
       emptied = emptying-lands h t (slots (h .at)) (slots-in n h (t .0))
@@ -76,12 +76,10 @@ module _ (P : Store → Type 0) (N : Type 0) (n : ℕ) where
 
       go :
           (b : Bool)
-          → leb leastRest (h .nbytes - need) ≡ b
+          → isSplit need (h .nbytes) ≡ b
           → Each P
           (cond b
-          (store (h .at + need) (h .nbytes - need)
-          ∷ store (stateAt (h .at + need)) FREE
-          ∷ (emptying (slots (h .at)) ++ (store (h .at) need ∷ taking clears (h .at) need)))
+          (restHeader (h .at + need) (h .nbytes - need) ++ (emptying (slots (h .at)) ++ (store (h .at) need ∷ taking clears (h .at) need)))
           (emptying (slots (h .at)) ++ taking clears (h .at) (h .nbytes)))
       go true q =
           let k = leb-true leastRest (h .nbytes - need) q in
@@ -98,6 +96,34 @@ module _ (P : Store → Type 0) (N : Type 0) (n : ℕ) where
       go false q =
           each-append P (emptying (slots (h .at))) (taking clears (h .at) (h .nbytes)) emptied
           (taken (h .nbytes) (omega arith) (omega arith))
+
+  -- grow, into the FREE clump behind
+  pub grow-lands :
+      (need : ℕ) (h next : Head)
+      → In h
+      → In next
+      → isFree next ≡ true
+      → next .at ≡ endOf h
+      → need % unit ≡ 0
+      → h .nbytes ≤ need
+      → need ≤ h .nbytes + next .nbytes
+      → Each P (growStores need h next)
+  unfolding growStores
+  grow-lands need h next t k f i e g l = go (isSplit need (h .nbytes + next .nbytes)) refl
+    where
+      go :
+          (b : Bool)
+          → isSplit need (h .nbytes + next .nbytes) ≡ b
+          → Each P (cond b (restHeader (h .at + need) (h .nbytes + next .nbytes - need) ++ (store (h .at) need ∷ [])) (store (h .at) (h .nbytes + next .nbytes) ∷ []))
+      go true q =
+          let d = leb-true leastRest (h .nbytes + next .nbytes - need) q in
+          let v = t .0 .even in
+          let r = k .0 .room in
+          let u = t .0 .small in (
+            k .1 .whole f _ _ (omega arith) (omega arith) (omega arith) (λ z. omega arith),
+            (k .1 .whole f _ _ (omega arith) (omega arith) (omega arith) (λ z. omega arith), (size-lands h t need (omega arith), tt)),
+          )
+      go false q = let r = k .0 .room in let u = t .0 .small in (size-lands h t (h .nbytes + next .nbytes) (omega arith), tt)
 
   -- a new entry, and the last one emptied
   pub listed-lands : (h : Head) → In h → (b : Bool) (o : Option ℕ) (p t v : ℕ) → ((s : ℕ) → o ≡ some s → Slot h s) → (b ≡ true → N → t < wordValues) → (N → v < wordValues) → Each P (storesOf (listed b o p t v))

@@ -10,7 +10,7 @@ use native.Mathlib.Omega.{arith}
 use lib.Dec.{eqb, ltb}
 use borrow.Author.Tests.{eqb-true, ne-eqb}
 use Rattle.rules.specs.declared.Request.{Request}
-use Rattle.rules.specs.declared.Request.the-variants.{Create, Reserve, ReserveUncleared, Onactive, Onfree, Withdraw, Activate, Free, Check, Recover}
+use Rattle.rules.specs.declared.Request.the-variants.{Create, Reserve, ReserveUncleared, Grow, Onactive, Onfree, Withdraw, Activate, Free, Check, Recover}
 use Rattle.rules.specs.Lists.{seek, Each}
 use Rattle.rules.specs.Words.{Mem, Store}
 use Rattle.rules.specs.Pages.{clumpsAt, isPool}
@@ -18,7 +18,7 @@ use Rattle.rules.specs.Clumps.{Head, head, bodyOf, stateAt, leastClump, FREE, R
 use Rattle.rules.specs.Sound.{Fault, faultAt, sizeBad, faultOf, clumpFault, invalid, targetFault, judge}
 use Rattle.rules.specs.Answers.{Verdict, granted, test, testFault, notPool, ifSound, ifSettled, totalsFor}
 use Rattle.rules.specs.Stores.{releasing, released, runs, joining, finishing, recoverStores}
-use Rattle.rules.specs.Requests.{reserve, finder, found, enlist, withdraw, activate, free, verdict}
+use Rattle.rules.specs.Requests.{reserve, grow, finder, found, enlist, withdraw, activate, free, verdict}
 use Rattle.laws.specs.Searches.{some-none, seek-split, seek-each}
 use Rattle.laws.specs.Walks.{size-good, faultless, clump-hit, clump-pass, clump-end, no-faults}
 use Rattle.laws.specs.Choices.{chooses-due}
@@ -183,14 +183,16 @@ module _ (n : ℕ) (m x : Mem) (page : AgreePage m x) (g : SameUpTo n m x (walk 
       ∙ found-same (SameList m x) (λ h. eqb (bodyOf h) o) (walk n m) (λ c. found c (f (walk n m))) (λ c. found c (k (walk n m)))
       (lists-same s) refl (λ h p. e h))
 
-  reserve-same : (clears : Bool) (size : ℕ) → ifSettled n x (reserve clears (walk n x) size) ≡ ifSettled n m (reserve clears (walk n m) size)
-  reserve-same clears size = settled-same _ _ (λ s. ap (λ (hs : List Head). reserve clears hs size) (walk-same s))
+  -- a request that goes by the clumps alone
+  walked-same : (f : List Head → Verdict) → ifSettled n x (f (walk n x)) ≡ ifSettled n m (f (walk n m))
+  walked-same f = settled-same _ _ (λ s. ap f (walk-same s))
 
   pub verdict-same : (q : Request) → verdict n x q ≡ verdict n m q
   unfolding verdict
   verdict-same Create = refl
-  verdict-same (Reserve size) = reserve-same true size
-  verdict-same (ReserveUncleared size) = reserve-same false size
+  verdict-same (Reserve size) = walked-same (λ hs. reserve true hs size)
+  verdict-same (ReserveUncleared size) = walked-same (λ hs. reserve false hs size)
+  verdict-same (Grow o size) = walked-same (λ hs. grow hs o size)
   verdict-same (Onactive o t v) =
       asked-same o (λ hs. enlist x hs (hasState RESERVED) o t t v) (λ hs. enlist m hs (hasState RESERVED) o t t v)
       (λ h f. enlist-same n m x (walk n m) (hasState RESERVED) o t t v h (λ w. f (state-live 0 h w)))

@@ -14,10 +14,10 @@ use Rattle.rules.specs.declared.Request.{Request}
 use Rattle.rules.specs.declared.Request.the-variants.{Create, Reserve, ReserveUncleared, Grow, Onactive, Onfree, Withdraw, Activate, Free, Check, Recover}
 use Rattle.rules.specs.Lists.{seek}
 use Rattle.rules.specs.Words.{Image, Mem, Store, mem}
-use Rattle.rules.specs.Pages.{isPool, rightLength}
+use Rattle.rules.specs.Pages.{rightLength}
 use Rattle.rules.specs.Clumps.{Head, headerBytes, bodyOf, RESERVED, hasState, isWaiting, slots, used, unmarked, withMark, freed, slotsBy, walk}
-use Rattle.rules.specs.Sound.{Fault, judge, unsettled, isValid, allValid}
-use Rattle.rules.specs.Answers.{done, notPool, notSound, notSettled, sizeZero, noRoom, wrongState, badTarget, cutShort, Verdict, refused, granted, test, testFault, flushOf, answerAt, answerOf, ifSound, ifSettled}
+use Rattle.rules.specs.Sound.{unsettled, isValid, allValid}
+use Rattle.rules.specs.Answers.{done, notPool, notSound, sizeZero, noRoom, wrongState, badTarget, cutShort, Verdict, refused, granted, test, flushOf, answerAt, answerOf, ifSound, ifSettled}
 use Rattle.rules.specs.Stores.{createStores, needOf, fits, reserveStores, growStores, freeAfter, listStores, withdrawStores, activateStores, freeStores, recoverStores}
 use Rattle.rules.specs.Requests.{placed, reserve, reserving, enlarged, grown, grow, finder, found, listed, openSlot, enlist, withdrawn, withdraw, activate, free, verdict, verdictOn, answerOn}
 use Rattle.laws.specs.Pools.{Sound}

@@ -1,25 +1,25 @@
 -- Where grow finds no room: answer 5 is given exactly if the earlier tests pass, the body is not enough, and there is no clump to take. One way
 -- through the tests of the verdict, each of which but the last has another answer; the other way the tests are computed. Assumes nothing.
-use Prim.Native.Nat.{ℕ, _+_, _-_, _<_, _≤_}
+use Prim.Native.Nat.{ℕ, _+_, _-_, _<_}
 use mathlib.Core.Path.{_≡_, refl, ap, _∙_}
 use mathlib.Core.Bool.{Bool, true, false, cond, not, _||_}
-use mathlib.Core.Logic.{_⊎_, inl, inr, ⊎-elim}
+use mathlib.Core.Logic.{_⊎_, inl, inr}
 use mathlib.Core.Option.{Option, some, none}
 use mathlib.Core.List.{[]}
 use native.Mathlib.Omega.{arith}
 use lib.Dec.{eqb, leb, ltb}
 use lib.ListN.{length}
-use borrow.Author.Tests.{eqb-true, eqb-false, eq-eqb, ne-eqb, ltb-true, lt-ltb, leb-false, lt-leb, not-false}
+use borrow.Author.Tests.{eqb-true, eqb-false, ne-eqb, ltb-true, lt-ltb, leb-false, lt-leb, not-false}
 use Rattle.rules.specs.declared.Request.the-variants.{Grow}
 use Rattle.rules.specs.Words.{Image, mem}
 use Rattle.rules.specs.Clumps.{Head, headerBytes, FREE, RESERVED, ACTIVE, hasState, isFree, isWaiting, nextOf}
 use Rattle.rules.specs.Sound.{unsettled}
-use Rattle.rules.specs.Answers.{sizeZero, noRoom, wrongState, Verdict, granted, refuse, answerOf, ifSettled, ifSound}
+use Rattle.rules.specs.Answers.{sizeZero, noRoom, wrongState, Verdict, granted, answerOf, ifSettled, ifSound}
 use Rattle.rules.specs.Stores.{needOf, growStores, ifFree, freeAfter}
-use Rattle.rules.specs.Requests.{finder, enlarged, grown, grow, verdict, verdictOn, answerOn}
+use Rattle.rules.specs.Requests.{finder, enlarged, grown, grow, verdict, verdictOn}
 use Rattle.rules.specs.Reading.{clumpsOf}
-use Rattle.rules.specs.Demands.{Settled, NoneToTake, NoGrowth, GrowRoom}
-use Rattle.laws.specs.Lying.{Lies, found-lies}
+use Rattle.rules.specs.Demands.{NoneToTake, NoGrowth, GrowRoom}
+use Rattle.laws.specs.Lying.{found-lies}
 use Rattle.laws.specs.Behind.{through-test, through-settled, through-found}
 use Rattle.laws.specs.Served.{granted-room}
 use Rattle.laws.specs.Pools.{Sound}

@@ -45,12 +45,14 @@ pub touching-like : (p : List Head) (h k : Head) (q : List Head) → isFree k �
 unfolding touching
 touching-like p h k q e t = let r = touching-parts p (h ∷ q) t in touching-join p (k ∷ q) (r .0) (rw e (r .1)) (rw e (r .2))
 
+-- a live clump between two parts
+pub touching-live : (p : List Head) (a : Head) (q : List Head) → isFree a ≡ false → touching p ≡ false → touching q ≡ false → touching (p ++ (a ∷ q)) ≡ false
+unfolding touching
+touching-live p a q f e g = touching-join p (a ∷ q) e (rw f g) (rw f (and-false (endsFree p)))
+
 -- a FREE clump is taken whole, or split into a live one and a FREE rest
 pub touching-taken : (p : List Head) (h a : Head) (q : List Head) → isFree a ≡ false → touching (p ++ (h ∷ q)) ≡ false → touching (p ++ (a ∷ q)) ≡ false
-unfolding touching
-touching-taken p h a q f t =
-    let r = touching-parts p (h ∷ q) t in
-    touching-join p (a ∷ q) (r .0) (rw f (or-neither (isFree h && startsFree q) (touching q) (r .1) .1)) (rw f (and-false (endsFree p)))
+touching-taken p h a q f t = let s = touching-sides p h q t in touching-live p a q f (s .0) (s .1)
 
 pub touching-split : (p : List Head) (h a b : Head) (q : List Head) → isFree h ≡ true → isFree a ≡ false → isFree b ≡ true → touching (p ++ (h ∷ q)) ≡ false → touching (p ++ (a ∷ b ∷ q)) ≡ false
 unfolding touching

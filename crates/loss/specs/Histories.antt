@@ -10,7 +10,7 @@ use lib.Seq.{take-length}
 use lib.Dec.{ltb}
 use borrow.Author.Tests.{ltb-false, le-ltb}
 use Rattle.rules.specs.declared.Request.{Request}
-use Rattle.rules.specs.declared.Request.the-variants.{Create, Reserve, ReserveUncleared, Onactive, Onfree, Withdraw, Activate, Free, Check, Recover}
+use Rattle.rules.specs.declared.Request.the-variants.{Create, Reserve, ReserveUncleared, Grow, Onactive, Onfree, Withdraw, Activate, Free, Check, Recover}
 use Rattle.rules.specs.Words.{Image, Mem, Store, Bytes, mem, after, carry}
 use Rattle.rules.specs.Pages.{headerAt, staticAt, staticEnd, rightLength}
 use Rattle.rules.specs.Clumps.{Head, bodyOf, endOf, isWaiting, walk}
@@ -107,6 +107,7 @@ asked-serves : (img : Image) (q : Request) → Serves img → Numbers q → Serv
 asked-serves img Create s u = created-serves img (s .bytes) (pool-right (length img) (mem img) (s .settled .pool))
 asked-serves img (Reserve size) s u = finished-serves img (Reserve size) s u refl
 asked-serves img (ReserveUncleared size) s u = finished-serves img (ReserveUncleared size) s u refl
+asked-serves img (Grow o size) s u = finished-serves img (Grow o size) s u refl
 asked-serves img (Onactive o t v) s u = finished-serves img (Onactive o t v) s u refl
 asked-serves img (Onfree o t v) s u = finished-serves img (Onfree o t v) s u refl
 asked-serves img (Withdraw o) s u = finished-serves img (Withdraw o) s u refl
@@ -183,6 +184,7 @@ none-through : (m : Mem) (hs : List Head) (q : Request) → isThrough m hs q 0 �
 none-through m hs Create = refl
 none-through m hs (Reserve size) = refl
 none-through m hs (ReserveUncleared size) = refl
+none-through m hs (Grow o size) = refl
 none-through m hs (Onactive o t v) = refl
 none-through m hs (Onfree o t v) = refl
 none-through m hs (Withdraw o) = refl

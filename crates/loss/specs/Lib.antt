@@ -30,6 +30,7 @@ pub mod Entries
 pub mod Listing
 pub mod Owning
 pub mod Courses
+pub mod Growing
 pub mod Turns
 pub mod Requested
 -- Images and histories: the theorems that the demands name.

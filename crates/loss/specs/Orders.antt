@@ -5,7 +5,7 @@ use mathlib.Core.Bool.{Bool}
 use mathlib.Core.List.{List}
 use Rattle.rules.specs.Words.{Mem, Store}
 use Rattle.rules.specs.Clumps.{Head}
-use Rattle.rules.specs.Stores.{reserveStores, taking, listStores, finishActivating, dropStores, recoverStores}
+use Rattle.rules.specs.Stores.{reserveStores, taking, growStores, listStores, finishActivating, dropStores, recoverStores}
 
 -- reserve: the rest's header, the targets, the smaller nbytes, the body, the state
 unfoldable pub reserveOrder : Bool → ℕ → Head → List Store
@@ -14,6 +14,10 @@ reserveOrder clears need h = reserveStores clears need h
 -- reserve, once the sizes are right, at a clump of size bytes at a: the body, the state
 unfoldable pub endOrder : Bool → ℕ → ℕ → List Store
 endOrder clears a size = taking clears a size
+
+-- grow: the rest's header, then the grown nbytes
+unfoldable pub growOrder : ℕ → Head → Head → List Store
+growOrder need h next = growStores need h next
 
 -- onactive and onfree: the value, then the target
 unfoldable pub listOrder : ℕ → ℕ → ℕ → List Store

@@ -1,33 +1,39 @@
 -- Every request on a settled pool takes its course, whatever its numbers: a refusal stores nothing, and what each test leaves is what the
 -- laws of its stores want. By cases on the requests. Assumes nothing.
-use Prim.Native.Nat.{ℕ}
-use mathlib.Core.Path.{_≡_, refl, sym, subst}
-use mathlib.Core.Bool.{Bool, true, false, not}
+use Prim.Native.Nat.{ℕ, _+_, _-_, _<_, _≤_}
+use mathlib.Core.Path.{_≡_, refl, sym, ap, subst, _∙_}
+use mathlib.Core.Bool.{Bool, true, false, cond, not}
 use mathlib.Core.Option.{Option, some, none}
 use mathlib.Core.List.{List, [], _∷_, _++_}
-use lib.Dec.{eqb, ltb}
-use borrow.Author.Tests.{leb-true, eqb-false, not-false}
+use native.Mathlib.Omega.{arith}
+use lib.Dec.{eqb, leb, ltb}
+use borrow.Author.Tests.{leb-true, leb-false, ltb-false, eqb-false, not-false, not-true}
 use Rattle.rules.specs.declared.Request.{Request}
-use Rattle.rules.specs.declared.Request.the-variants.{Create, Reserve, ReserveUncleared, Onactive, Onfree, Withdraw, Activate, Free, Check, Recover}
+use Rattle.rules.specs.declared.Request.the-variants.{Create, Reserve, ReserveUncleared, Grow, Onactive, Onfree, Withdraw, Activate, Free, Check, Recover}
 use Rattle.rules.specs.Lists.{seek, Each}
+use Rattle.rules.specs.Pages.{clumpsAt}
 use Rattle.rules.specs.Words.{Mem, store, after}
-use Rattle.rules.specs.Clumps.{Head, hasState, isFree, isWaiting, slots, valueAt, used, unmarked, freed, targetOf, withMark, slotsBy, entriesBy, RESERVED, walk}
+use Rattle.rules.specs.Clumps.{Head, headerBytes, hasState, isFree, isWaiting, slots, valueAt, used, unmarked, freed, targetOf, withMark, slotsBy, entriesBy, RESERVED, walk}
 use Rattle.rules.specs.Sound.{isValid, allValid, touching, unsettled}
-use Rattle.rules.specs.Answers.{storesOf, sizeZero, wrongState, badTarget, ifSettled}
-use Rattle.rules.specs.Stores.{needOf, fits, reserveStores, activateStores, freeStores, recoverStores}
-use Rattle.rules.specs.Requests.{placed, reserve, finder, openSlot, listed, enlist, withdrawn, withdraw, activate, free, verdict}
+use Rattle.rules.specs.Answers.{granted, storesOf, sizeZero, noRoom, wrongState, badTarget, ifSettled}
+use Rattle.rules.specs.Stores.{needOf, fits, reserveStores, freeAfter, activateStores, freeStores, recoverStores}
+use Rattle.rules.specs.Requests.{placed, reserve, enlarged, grown, grow, finder, openSlot, listed, enlist, withdrawn, withdraw, activate, free, verdict}
 use Rattle.rules.specs.Traces.{isCreate, beforeTurn, isThrough}
 use Rattle.laws.specs.Searches.{differ, and-both, each-right, seek-split}
 use Rattle.laws.specs.Lying.{valid-even}
 use Rattle.laws.specs.Choices.{target-even, target-marked}
 use Rattle.laws.specs.Behind.{behind-test, behind-sound, behind-settled, behind-found}
 use Rattle.laws.specs.Pools.{Sound}
-use Rattle.laws.specs.Needs.{need-even, need-clump}
+use Rattle.laws.specs.Needs.{need-even, need-clump, need-body}
 use Rattle.laws.specs.Bodies.{Off}
-use Rattle.loss.specs.Orders.{reserveOrder, listOrder, recoverOrder}
+use Rattle.laws.specs.Verdicts.{either-live}
+use Rattle.loss.specs.Orders.{reserveOrder, growOrder, listOrder, recoverOrder}
 use Rattle.loss.specs.Held.{Held, Idle, sound-held}
 use Rattle.loss.specs.Fates.{fates, Owned, Rests}
+use Rattle.loss.specs.Parts.{parted-one}
+use Rattle.loss.specs.Neighbours.{free-after, next-some}
 use Rattle.loss.specs.Reserving.{Reserved, reserves}
+use Rattle.loss.specs.Growing.{Enlarged, enlarges}
 use Rattle.loss.specs.Listing.{value-rests, target-held, withdrawn-held}
 use Rattle.loss.specs.Owning.{owned-off, owned-beyond, rests-as, own-fate}
 use Rattle.loss.specs.Recovering.{comes-none, comes-store, recovers}
@@ -95,6 +101,48 @@ module _ (n : ℕ) (m : Mem) (s : Sound n m) (u : unsettled (walk n m) ≡ false
   reserve-course clears size =
       behind-settled (Course n m never) (none-made never) n m _
       (λ y z. behind-test (Course n m never) (none-made never) (eqb size 0) sizeZero _ (λ e. placed-course clears size (eqb-false size 0 e) (seek (fits (needOf size)) (walk n m)) refl))
+
+  -- the FREE clump that grow takes
+  pub enlarging :
+      (size : ℕ) (h next : Head) (a : Amid n m h)
+      → isWaiting h ≡ true
+      → h .nbytes - headerBytes < size
+      → freeAfter (walk n m) h ≡ some next
+      → needOf size ≤ h .nbytes + next .nbytes
+      → (r : List Head) × (a .above ≡ next ∷ r) × Enlarged n m (a .below) h next r (needOf size)
+  enlarging size h next a w l e r =
+      let p = a .below in
+      let x = next-some (a .above) next (sym (free-after clumpsAt n p h (a .above) (a .held .tiles)) ∙ ap (λ (hs : List Head). freeAfter hs h) (sym (a .whole)) ∙ e) in
+      let i = x .1 in
+      let c = parted-one n p h (a .above) (a .held .tiles) .part .0 .least in (
+        x .0,
+        i,
+        enlarges n m p h next (x .0)
+            (subst (λ (q : List Head). Held n m (p ++ (h ∷ q))) i (a .held))
+            (subst (λ (q : List Head). Each Idle (p ++ (h ∷ q))) i (a .idle))
+            (subst (λ (q : List Head). touching (p ++ (h ∷ q)) ≡ false) i (a .apart))
+            (not-true _ (either-live 0 2 h w)) (x .2) (needOf size) (need-even size) (omega (arith, need-body size)) r,
+      )
+
+  enlarged-course : (o size : ℕ) (h : Head) → Amid n m h → isWaiting h ≡ true → h .nbytes - headerBytes < size → (c : Option Head) → freeAfter (walk n m) h ≡ c → Course n m never (storesOf (enlarged o (needOf size) h c))
+  unfolding growOrder
+  enlarged-course o size h a w l none e = none-made never
+  enlarged-course o size h a w l (some next) e =
+      behind-test (Course n m never) (none-made never) (ltb (h .nbytes + next .nbytes) (needOf size)) noRoom _
+      (λ z. enlarging size h next a w l e (ltb-false _ (needOf size) z) .2 .course)
+
+  grow-course : (o size : ℕ) → Course n m never (storesOf (ifSettled n m (grow (walk n m) o size)))
+  unfolding grow grown
+  grow-course o size =
+      behind-settled (Course n m never) (none-made never) n m _
+      (λ y z. behind-test (Course n m never) (none-made never) (eqb size 0) sizeZero _
+      (λ b. behind-found (Course n m never) (none-made never) (finder (walk n m) o) _
+      (λ h e. behind-test (Course n m never) (none-made never) (not (isWaiting h)) wrongState _
+      (λ w. go h (amid n m _ h s u e) (not-false _ w) (leb size (h .nbytes - headerBytes)) refl))))
+    where
+      go : (h : Head) → Amid n m h → isWaiting h ≡ true → (b : Bool) → leb size (h .nbytes - headerBytes) ≡ b → Course n m never (storesOf (cond b (granted o []) (enlarged o (needOf size) h (freeAfter (walk n m) h))))
+      go h a w true q = none-made never
+      go h a w false q = enlarged-course o size h a w (leb-false size _ q) (freeAfter (walk n m) h) refl
 
   -- the list of a clump
   listed-course : (h : Head) (o t r v : ℕ) → (isValid (walk n m) t ≡ true → targetOf r ≡ t) → Amid n m h → (e : Option ℕ) → openSlot m (slots (h .at)) ≡ e → Course n m never (storesOf (listed (isValid (walk n m) t) e o r v))
@@ -170,6 +218,7 @@ unfolding verdict
 courses n m Create s u c = differ refl c
 courses n m (Reserve size) s u c = reserve-course n m s u true size
 courses n m (ReserveUncleared size) s u c = reserve-course n m s u false size
+courses n m (Grow o size) s u c = grow-course n m s u o size
 courses n m (Onactive o t v) s u c =
     behind-settled (Course n m never) (course-none n m never s u) n m _
     (λ y z. behind-found (Course n m never) (course-none n m never s u) (finder (walk n m) o) _ (λ h e. enlist-course n m s u (hasState RESERVED) o t t v h (λ x. target-even t (valid-even (walk n m) t x)) (amid n m _ h s u e)))

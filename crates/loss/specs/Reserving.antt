@@ -50,7 +50,7 @@ module _ (n : ℕ) (D : ℕ → Type 0) (k : List Kept) (w : Mem) (p : List Head
   apart i o d l u e = ⊎-elim (λ x. absurd (omega arith)) (λ x. absurd (omega arith)) (clear o d)
 
   -- a word past its size and state
-  inner : (m : Mem) (i v : ℕ) → a + 16 ≤ i → i < endOf h → Rests n D k w m (p ++ (h ∷ q)) → Rests n D k w (upd m i v) (p ++ (h ∷ q))
+  pub inner : (m : Mem) (i v : ℕ) → a + 16 ≤ i → i < endOf h → Rests n D k w m (p ++ (h ∷ q)) → Rests n D k w (upd m i v) (p ++ (h ∷ q))
   inner m i v l u f =
       let x = upd m i v in
       let t = parted-one n p h q (f .held .tiles) in

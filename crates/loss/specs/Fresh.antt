@@ -35,20 +35,21 @@ use Rattle.loss.specs.Requested.{Amid, amid, placing}
 use Rattle.loss.specs.Fates.{fates, Owned}
 use Rattle.loss.specs.Reserving.{Reserved}
 
--- the clump j that reserve makes at the place of the FREE clump h
-module _ (n : ℕ) (p : List Head) (h : Head) (q : List Head) (j : Head) (r : List Head) (t : Tiles clumpsAt (p ++ (h ∷ q)) n) (free : isFree h ≡ true) (place : j .at ≡ h .at) (less : j .nbytes ≤ h .nbytes) where
+-- the clump j that a request makes at the place of the clump h
+module _ (n : ℕ) (p : List Head) (h : Head) (q : List Head) (j : Head) (r : List Head) (t : Tiles clumpsAt (p ++ (h ∷ q)) n) (place : j .at ≡ h .at) where
   parts : Parted n p (h .at) (h ∷ []) (endOf h) q
   parts = parted-one n p h q t
 
   -- is found at its body
-  found-there : finder (p ++ (j ∷ r)) (bodyOf h) ≡ some j
+  pub found-there : finder (p ++ (j ∷ r)) (bodyOf h) ≡ some j
   found-there = rw (← place) (tiles-found clumpsAt p j r (subst (Tiles clumpsAt p) (sym place) (parts .lower)))
 
-  apart : Each (λ k. isLive k ≡ true → Apart j k) (p ++ (h ∷ q))
-  apart =
-      each-append (λ k. isLive k ≡ true → Apart j k) p (h ∷ q)
-      (each-map (λ k. (clumpsAt ≤ k .at) × (k .at < h .at) × (endOf k ≤ h .at)) (λ k. isLive k ≡ true → Apart j k) p (λ k l e. inr (omega (arith, l .2))) (tiles-in clumpsAt (h .at) p (parts .lower)))
-      ((λ e. differ free (not-true _ e)), each-map (λ k. (endOf h ≤ k .at) × (k .at < n) × (endOf k ≤ n)) (λ k. isLive k ≡ true → Apart j k) q (λ k l e. inl (omega (arith, l .0))) (tiles-in (endOf h) n q (parts .upper)))
+  -- and shares no byte with those below; above h none begins before it ends
+  pub apart-below : Each (Apart j) p
+  apart-below = each-map (λ k. (clumpsAt ≤ k .at) × (k .at < h .at) × (endOf k ≤ h .at)) (Apart j) p (λ k l. inr (omega (arith, l .2))) (tiles-in clumpsAt (h .at) p (parts .lower))
+
+  pub begin-above : Each (λ k. endOf h ≤ k .at) q
+  begin-above = each-map (λ k. (endOf h ≤ k .at) × (k .at < n) × (endOf k ≤ n)) (λ k. endOf h ≤ k .at) q (λ k l. l .0) (tiles-in (endOf h) n q (parts .upper))
 
 -- the number of either form
 number-of : (clears : Bool) (size : ℕ) → size < wordValues → Numbers (reserving clears size)
@@ -97,7 +98,7 @@ module _ (img : Image) (clears : Bool) (size fuse : ℕ) (b : Bytes img) (g : Gr
   place-is = ap (λ (r : Answer). r .place) (g .answer-is) ∙ g .grants .place
 
   pub made : finder (clumpsOf (finished img q)) (answerOn img q fuse .place) ≡ some (left .clump)
-  made = rw (clumps-are, place-is) (found-there (length img) (a .below) h (a .above) (left .clump) (left .above) (a .held .tiles) (large .0) (left .place) (left .less))
+  made = rw (clumps-are, place-is) (found-there (length img) (a .below) h (a .above) (left .clump) (left .above) (a .held .tiles) (left .place))
 
   pub was-free : h .state ≡ FREE
   was-free = eqb-true (h .state) FREE (large .0)
@@ -108,10 +109,14 @@ fresh img clears size fuse b d =
     let x = left img clears size fuse b g in
     let y = a img clears size fuse b g in
     let f = large img clears size fuse b g .0 in
-    let k = g .grants .clump in (
+    let k = g .grants .clump in
+    let Q : Head → Type 0 = (λ j. isLive j ≡ true → Apart (x .clump) j) in (
       x .clump,
       made img clears size fuse b g,
       x .state,
       omega (arith, x .room, need-body size),
-      subst (Each (λ j. isLive j ≡ true → Apart (x .clump) j)) (sym (y .whole)) (apart (length img) (y .below) k (y .above) (x .clump) (x .above) (y .held .tiles) f (x .place) (x .less)),
+      subst (Each Q) (sym (y .whole))
+          (each-append Q (y .below) (k ∷ y .above)
+          (each-map (Apart (x .clump)) Q (y .below) (λ j z e. z) (apart-below (length img) (y .below) k (y .above) (x .clump) (x .above) (y .held .tiles) (x .place)))
+          ((λ e. differ f (not-true _ e)), each-map (λ j. endOf k ≤ j .at) Q (y .above) (λ j l e. inl (omega (arith, l, x .place, x .less))) (begin-above (length img) (y .below) k (y .above) (x .clump) (x .above) (y .held .tiles) (x .place)))),
     )

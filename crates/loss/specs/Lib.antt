@@ -40,6 +40,7 @@ pub mod Histories
 pub mod Again
 pub mod Linked
 pub mod Fresh
+pub mod Grown
 pub mod Cleared
 -- The orders that are wrong.
 pub mod Wrong

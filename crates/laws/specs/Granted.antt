@@ -59,7 +59,7 @@ pub record Reserves (clears : Bool) (n : ℕ) (m : Mem) (size p : ℕ) (st : Lis
 -- what grow stores for a clump: nothing where its body is enough, else what takes the FREE clump behind it
 pub data Enlarges (n : ℕ) (m : Mem) (size : ℕ) (h : Head) : List Store → Type 0 where
   enough : size ≤ h .nbytes - headerBytes → Enlarges n m size h []
-  takes : (next : Head) → h .nbytes - headerBytes < size → freeAfter (walk n m) h ≡ some next → needOf size ≤ h .nbytes + next .nbytes → Enlarges n m size h (growStores (needOf size) h next)
+  takes : (next : Head) → h .nbytes - headerBytes < size → freeAfter (walk n m) h ≡ some next → needOf size ≤ h .nbytes + next .nbytes → Enlarges n m size h (growStores (needOf size) (h .at) (h .nbytes + next .nbytes))
 
 -- what grow grants, with the place p and the stores st
 pub record Grows (n : ℕ) (m : Mem) (offset size p : ℕ) (st : List Store) : Type 0 where

@@ -52,7 +52,7 @@ module _ (fuse o need : ℕ) (h : Head) where
       go : (b : Bool) → isFree k ≡ b → (c : Bool) → ltb (h .nbytes + k .nbytes) need ≡ c → Out (enlarged o need h (cond b (some k) none)) → NoneToTake need h (some k)
       go false q c p f = inl (eqb-false (k .state) FREE q)
       go true q true p f = inr (ltb-true _ need p)
-      go true q false p f = absurd (granted-room (ltb fuse (length (growStores need h k))) _ _ _ (rw p at f))
+      go true q false p f = absurd (granted-room (ltb fuse (length (growStores need (h .at) (h .nbytes + k .nbytes)))) _ _ _ (rw p at f))
 
   out-none : (next : Option Head) → NoneToTake need h next → Out (into next)
   unfolding answerOf

@@ -21,9 +21,9 @@ use Rattle.laws.specs.Walks.{sound-tiles}
 abbrev pub answerIs : ℕ → ℕ → ℕ → Answer
 answerIs a p f = answerBy a p f 0 (flushOf [])
 
-pub granted-none : (fuse : ℕ) → answerIs 0 0 0 ≡ answerOf fuse (granted 0 [])
+pub granted-none : (place fuse : ℕ) → answerIs 0 place 0 ≡ answerOf fuse (granted place [])
 unfolding answerOf
-granted-none fuse = rw (le-ltb fuse 0 (omega arith), take-nil fuse)
+granted-none place fuse = rw (le-ltb fuse 0 (omega arith), take-nil fuse)
 
 pub record RightLength (n : ℕ) : Type 0 where
   pub least : leastLength ≤ n

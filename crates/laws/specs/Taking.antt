@@ -106,7 +106,7 @@ module _ (P : Store → Type 0) (N : Type 0) (n : ℕ) where
       → need % unit ≡ 0
       → h .nbytes ≤ need
       → need ≤ h .nbytes + next .nbytes
-      → Each P (growStores need h next)
+      → Each P (growStores need (h .at) (h .nbytes + next .nbytes))
   unfolding growStores
   grow-lands need h next t k f i e g l = go (isSplit need (h .nbytes + next .nbytes)) refl
     where

@@ -1,6 +1,6 @@
 -- The orders of stores that the laws of cuts are about, each by its name in the rules. A law that is about one of them opens it here,
 -- so that another order in its place (crates/loss/must-fail) is refused by the law. Assumes nothing.
-use Prim.Native.Nat.{ℕ}
+use Prim.Native.Nat.{ℕ, _+_}
 use mathlib.Core.Bool.{Bool}
 use mathlib.Core.List.{List}
 use Rattle.rules.specs.Words.{Mem, Store}
@@ -17,7 +17,7 @@ endOrder clears a size = taking clears a size
 
 -- grow: the rest's header, then the grown nbytes
 unfoldable pub growOrder : ℕ → Head → Head → List Store
-growOrder need h next = growStores need h next
+growOrder need h next = growStores need (h .at) (h .nbytes + next .nbytes)
 
 -- onactive and onfree: the value, then the target
 unfoldable pub listOrder : ℕ → ℕ → ℕ → List Store

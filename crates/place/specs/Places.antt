@@ -1,4 +1,4 @@
--- What reserve asks of the clump that was found, and a law for each way out of it. Assumes nothing.
+-- A law for each way out of reserve, and what it asks of the clump that was found. Assumes nothing.
 use Prim.Native.Nat.{ℕ, _+_, _-_, _%_, _<_, _≤_}
 use mathlib.Core.Path.{_≡_}
 use mathlib.Core.Bool.{Bool}
@@ -16,18 +16,11 @@ use Rattle.rules.specs.Stores.{needOf, fits, emptying, leastRest, restHeader, t
 use Rattle.rules.specs.Requests.{reserve}
 use Rattle.laws.specs.Searches.{and-both, seek-split}
 use Rattle.laws.specs.Needs.{need-clump}
+use Rattle.need.specs.Fits.{Fit}
 use Rattle.walk.specs.Scans.{offset-some, offset-inside}
 use Rattle.steps.specs.Acts.{Acts, acts-ran}
 use Rattle.word.specs.declared.Power.{Power}
 use Rattle.word.specs.Runs.{full, Ran, told}
-
--- the clump at h is large enough
-pub record Fit (n : ℕ) (m : Mem) (need h : ℕ) : Type 0 where
-  pub even : h % unit ≡ 0
-  pub least : leastClump ≤ need
-  pub enough : need ≤ m h
-  pub room : h + m h ≤ n
-  pub small : n < wordValues
 
 -- reserve, a law for each way out
 module _ (clears : Bool) (hs : List Head) (size : ℕ) where
@@ -46,7 +39,7 @@ module _ (clears : Bool) (hs : List Head) (size : ℕ) where
 -- the clump that first fit finds
 pub fit-found :
     (n : ℕ) (m : Mem) (size r : ℕ)
-    → (size ≡ 0 → ⊥) → n < wordValues → Tiles clumpsAt (walk n m) n → r ≡ offsetOf n (seek (fits (needOf size)) (walk n m)) → r < n → Fit n m (needOf size) r
+    → (size ≡ 0 → ⊥) → n < wordValues → Tiles clumpsAt (walk n m) n → r ≡ offsetOf n (seek (fits (needOf size)) (walk n m)) → r < n → Fit n (needOf size) r (m r)
 fit-found n m size r z s t e l =
     let i = offset-inside n m (fits (needOf size)) t n r e (λ q. omega arith) in
     let p = seek-split (fits (needOf size)) (walk n m) (head m r) (offset-some n m (fits (needOf size)) t n r e (λ q. omega arith)) .passes in

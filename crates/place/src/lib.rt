@@ -10,7 +10,7 @@ ghost use Rattle.rules.specs.Stores.{emptying, needOf, restHeader, clearedWords
 ghost use Rattle.rules.specs.Requests.{Does, reserving};
 ghost use Rattle.word.specs.Runs.{Ran};
 ghost use Rattle.steps.specs.Acts.{Acts};
-ghost use Rattle.place.specs.Places.{Fit};
+ghost use Rattle.need.specs.Fits.{Fit};
 use page::clump::Clump;
 use rules::Answer;
 use word::Power;
@@ -67,7 +67,7 @@ fn take_whole(img: &mut [u8], p: Power, h: usize, size: usize, clears: bool) -> 
 
 // Reserve, in the clump that was found.
 fn reserve_at(img: &mut [u8], h: usize, size: u64, clears: bool, fuse: u64) -> Answer
-    requires { ⌜ Fit (length (now img)) (mem (now img)) (needOf size) h ⌝ }
+    requires { ⌜ Fit (length (now img)) (needOf size) h (mem (now img) h) ⌝ }
     ensures { λ r. ⌜ Acts (now (img .entry)) (granted (h + headerBytes) (reserveStores clears (needOf size) (head (mem (now (img .entry))) h))) fuse (now (img .exit)) r ⌝ }
 {
     let n = word::get(img, h);

@@ -11,7 +11,7 @@ use lib.ListN.{length}
 use borrow.Author.Tests.{ne-eqb, eqb-true}
 use Rattle.rules.specs.Lists.{any}
 use Rattle.rules.specs.Words.{Image, Mem, Store, mem, store, wordBytes, wordValues}
-use Rattle.rules.specs.Clumps.{Head, head, endOf, isWaiting, hasState, stateAt, headerBytes, ACTIVE, FREEING, FREE, used, marked, unmarked, freed, nextOf, beforeOf, offsetOf}
+use Rattle.rules.specs.Clumps.{Head, head, endOf, isWaiting, hasState, stateAt, headerBytes, ACTIVE, FREEING, FREE, used, marked, unmarked, freed, beforeOf, offsetOf}
 use Rattle.rules.specs.Sound.{allValid}
 use Rattle.rules.specs.Answers.{granted, refuse, wrongState, badTarget}
 use Rattle.rules.specs.Stores.{finishFreeing, hasMarked, dropStores, ifFree, freeAfter, freeBefore, joinBefore, joinBoth, freeStores}
@@ -19,7 +19,7 @@ use Rattle.rules.specs.Requests.{free}
 use Rattle.rules.specs.Reading.{clumpsOf, Tiled}
 use Rattle.laws.specs.Searches.{seek-split}
 use Rattle.laws.specs.Walking.{seek-placed}
-use Rattle.laws.specs.Neighbours.{if-free, clumpAt, stands-header, next-at, before-at}
+use Rattle.laws.specs.Neighbours.{if-free, clumpAt, stands-header, before-at}
 use Rattle.laws.specs.Lying.{Lies, placed-lies}
 use Rattle.laws.specs.Choices.{chooses-marked, chooses-unmarked, chooses-freed}
 use Rattle.page.specs.Forms.{listAt, onlyIn, reachOf}
@@ -27,7 +27,8 @@ use Rattle.page.specs.Slots.{only-word, only-used}
 use Rattle.page.specs.declared.clump.Clump.{Clump}
 use Rattle.walk.specs.Forms.{listValid}
 use Rattle.walk.specs.Scans.{Finds, list-valid}
-use Rattle.walk.specs.Beside.{sizeOf, freeBytes, free-stands}
+use Rattle.walk.specs.Beside.{sizeOf, freeBytes, free-stands, size-room}
+use Rattle.walk.specs.Beside as beside
 use Rattle.rules.specs.declared.Answer.{Answer}
 use Rattle.word.specs.declared.Power.{Power}
 use Rattle.word.specs.Runs.{full, Ran, told, ran-then, ran-as}
@@ -136,10 +137,6 @@ joins-are (some k) y h at f g =
     rw (ne-eqb (k .nbytes) 0 (omega (arith, f k refl)))
     (ap (λ (st : List Store). store (h .at) (h .nbytes + k .nbytes) ∷ st) (before-are y at (h .nbytes + k .nbytes) g))
 
-size-room : (x : Option Head) (a b : ℕ) → a ≤ b → ((k : Head) → x ≡ some k → a + k .nbytes ≤ b) → a + sizeOf x ≤ b
-size-room none a b l f = omega arith
-size-room (some k) a b l f = f k refl
-
 -- the clump c at h, which is freed: the next one is read at its end, the one before at `below`
 module _ {img : Image} {offset h below : ℕ} {c : Clump} {l : List (List ℕ)} (t : Releasing img offset h below c l) where
   abbrev this : Head
@@ -152,11 +149,8 @@ module _ {img : Image} {offset h below : ℕ} {c : Clump} {l : List (List ℕ)} 
   under = sizeOf (freeBefore (clumpsOf img) this)
 
   -- what was read are their bytes, if they are FREE
-  abbrev next-stands : nextOf (clumpsOf img) this ≡ clumpAt (length img) (mem img) (endOf this)
-  next-stands = next-at (length img) (mem img) (t .tiles) _ this (t .finds .found)
-
   next-bytes : freeBytes (length img) (mem img) (h + c .nbytes) ≡ next
-  next-bytes = rw (t .size) (ap (λ (o : Option Head). sizeOf (ifFree o)) (sym next-stands))
+  next-bytes = rw (t .size) (beside.next-bytes (length img) (mem img) h (t .tiles) _ (t .finds .found))
 
   abbrev below-stands : beforeOf (clumpsOf img) this ≡ clumpAt (length img) (mem img) below
   below-stands = before-at (length img) (mem img) (t .tiles) this ∙ ap (clumpAt (length img) (mem img)) (sym (t .finds .under))
@@ -166,7 +160,7 @@ module _ {img : Image} {offset h below : ℕ} {c : Clump} {l : List (List ℕ)} 
 
   -- a clump that stands there has its header in the image
   pub next-header : (h + c .nbytes ≡ 0 → ⊥) → h + c .nbytes < length img → ((h + c .nbytes) % wordBytes ≡ 0) × (h + c .nbytes + headerBytes ≤ length img)
-  next-header = rw (t .size) (stands-header (length img) (mem img) (t .tiles) _ (endOf this) next-stands)
+  next-header = rw (t .size) (beside.next-header (length img) (mem img) h (t .tiles) _ (t .finds .found))
 
   pub below-header : (below ≡ 0 → ⊥) → below < length img → (below % wordBytes ≡ 0) × (below + headerBytes ≤ length img)
   below-header = stands-header (length img) (mem img) (t .tiles) _ below below-stands
@@ -178,13 +172,6 @@ module _ {img : Image} {offset h below : ℕ} {c : Clump} {l : List (List ℕ)} 
       (i .0, omega (arith, i .1))
 
   -- the FREE ones, by where they stand
-  next-free : (k : Head) → freeAfter (clumpsOf img) this ≡ some k → Lies (length img) k × (k .at ≡ h + c .nbytes)
-  next-free k e =
-      let x = if-free (nextOf (clumpsOf img) this) k e .0 in (
-        placed-lies (length img) (mem img) k (t .small) (seek-placed (length img) (mem img) _ k (t .tiles) x),
-        eqb-true (k .at) (endOf this) (seek-split _ (clumpsOf img) k x .passes) ∙ ap (λ (w : ℕ). h + w) (sym (t .size)),
-      )
-
   below-free : (k : Head) → freeBefore (clumpsOf img) this ≡ some k → Lies (length img) k × (endOf k ≡ h) × (k .at ≡ below)
   below-free k e =
       let x = if-free (beforeOf (clumpsOf img) this) k e .0 in (
@@ -195,10 +182,7 @@ module _ {img : Image} {offset h below : ℕ} {c : Clump} {l : List (List ℕ)} 
 
   -- the sum of all three stays within the image
   next-room : h + c .nbytes + freeBytes (length img) (mem img) (h + c .nbytes) ≤ length img
-  next-room =
-      let e = t .size in
-      rw next-bytes
-      (size-room (freeAfter (clumpsOf img) this) (h + c .nbytes) (length img) (omega (arith, t .finds .inside .room)) (λ k q. let x = next-free k q in omega (arith, x .0 .room, x .1)))
+  next-room = rw (t .size) (beside.next-room (length img) (mem img) h (t .tiles) _ (t .finds .found) (t .small) (t .finds .inside .room))
 
   below-room : freeBytes (length img) (mem img) below ≤ h
   below-room =
@@ -220,7 +204,7 @@ module _ {img : Image} {offset h below : ℕ} {c : Clump} {l : List (List ℕ)} 
       rw (t .size)
       (ap₂ _++_ drops-are
       (sym (joins-are (freeAfter (clumpsOf img) this) (freeBefore (clumpsOf img) this) this below
-      (λ k q. let x = next-free k q in omega (arith, x .0 .least))
+      (λ k q. let x = beside.next-free (length img) (mem img) h (t .tiles) _ (t .finds .found) (t .small) k q in omega (arith, x .0 .least))
       (λ k q. let x = below-free k q in (x .2, omega (arith, x .0 .least))))))
 
   pub release-acts :

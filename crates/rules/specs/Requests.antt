@@ -52,7 +52,9 @@ finding hs offset = Option·map (λ h. (h .at, belowOf hs h)) (finder hs offset)
 -- it .. Else answer 5, exactly then."
 abbrev pub enlarged : ℕ → ℕ → Head → Option Head → Verdict
 enlarged offset need h none = refuse noRoom
-enlarged offset need h (some next) = test (ltb (h .nbytes + next .nbytes) need) noRoom (granted offset (growStores need h next))
+enlarged offset need h (some next) =
+    let both = h .nbytes + next .nbytes in
+    test (ltb both need) noRoom (granted offset (growStores need (h .at) both))
 
 -- on a clump: 7 unless it is "RESERVED or ACTIVE"
 unfoldable pub grown : List Head → ℕ → ℕ → Head → Verdict

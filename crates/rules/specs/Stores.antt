@@ -137,12 +137,10 @@ freeAfter hs h = ifFree (nextOf hs h)
 abbrev pub freeBefore : List Head → Head → Option Head
 freeBefore hs h = ifFree (beforeOf hs h)
 
--- W6, a clump grows into the next one, which is FREE: "splitting off a rest by reserve's rule: the rest's header first, then one store of the
--- grown nbytes"; without a rest that of both together
-unfoldable pub growStores : ℕ → Head → Head → List Store
-growStores need h next =
-    let a = h .at in
-    let both = h .nbytes + next .nbytes in
+-- W6, the clump at a grows into the next one, and both together have so many bytes: "splitting off a rest by reserve's rule: the rest's header
+-- first, then one store of the grown nbytes"; without a rest that of both
+unfoldable pub growStores : ℕ → ℕ → ℕ → List Store
+growStores need a both =
     cond (isSplit need both) (restHeader (a + need) (both - need) ++ (store a need ∷ [])) (store a both ∷ [])
 
 -- "the rest's header first, then one store": three stores, or the one

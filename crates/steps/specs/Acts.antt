@@ -40,6 +40,10 @@ pub acts-refused : (img : Image) (a p f fuse : ℕ) → Acts img (refused a p f)
 unfolding answerOf
 acts-refused img a p f fuse = record { answered = refl; stored = kept img fuse }
 
+-- a grant without a store
+pub acts-none : (img : Image) (place fuse : ℕ) → Acts img (granted place []) fuse img (answerIs 0 place 0)
+acts-none img place fuse = record { answered = granted-none place fuse; stored = kept img fuse }
+
 pub acts-ran :
     {img x : Image} {q : Power} {st : List Store} {r : Answer} (fuse place : ℕ)
     → Ran img (full fuse) st x q → r ≡ told q place → Acts img (granted place st) fuse x r
@@ -55,7 +59,7 @@ module _ (img : Image) (r : Answer) (e : (fuse : ℕ) → r ≡ answerOf fuse (i
           (t : Bool) (o : Option Fault)
           → r ≡ answerOf fuse (test (not t) notPool (testFault o (granted 0 [])))
           → Acts img (test (not t) notPool (testFault o v)) fuse img r
-      go true none f = absurd (z (ap (λ (a : Answer). a .answer) (f ∙ sym (granted-none fuse))))
+      go true none f = absurd (z (ap (λ (a : Answer). a .answer) (f ∙ sym (granted-none 0 fuse))))
       go true (some x) f = record { answered = f; stored = kept img fuse }
       go false o f = record { answered = f; stored = kept img fuse }
 
@@ -71,7 +75,7 @@ module _ (img : Image) (r : Answer) (e : (fuse : ℕ) → r ≡ answerOf fuse (i
           → r ≡ answerOf fuse (test (not t) notPool (testFault o (test u notSettled (granted 0 []))))
           → Acts img (test (not t) notPool (testFault o (test u notSettled v))) fuse img r
       go true none true f = record { answered = f; stored = kept img fuse }
-      go true none false f = absurd (z (ap (λ (a : Answer). a .answer) (f ∙ sym (granted-none fuse))))
+      go true none false f = absurd (z (ap (λ (a : Answer). a .answer) (f ∙ sym (granted-none 0 fuse))))
       go true (some x) u f = record { answered = f; stored = kept img fuse }
       go false o u f = record { answered = f; stored = kept img fuse }
 

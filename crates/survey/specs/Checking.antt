@@ -57,7 +57,7 @@ module _ (img : Image) (a : Answer) (s : Seen) where
 
     pub surveys-done : judge (length img) (mem img) ≡ none → a ≡ answerIs 0 0 0 → Surveys img (record { answer = a; seen = s })
     unfolding ifSound
-    surveys-done e f = record { answered = λ fuse. rw (f, pool, e) (granted-none fuse); seen-is = rw pool sees }
+    surveys-done e f = record { answered = λ fuse. rw (f, pool, e) (granted-none 0 fuse); seen-is = rw pool sees }
 
 -- whether the state is unsettled: an unfinished clump, or none
 module _ (s : Seen) where
@@ -80,7 +80,7 @@ module _ (n : ℕ) (m : Mem) (r : Answer) (e : (fuse : ℕ) → r ≡ answerOf f
           (t : Bool) (o : Option Fault)
           → r ≡ answerOf fuse (test (not t) notPool (testFault o (granted 0 [])))
           → r ≡ answerOf fuse (test (not t) notPool (testFault o (test (unsettled (walk n m)) notSettled (granted 0 []))))
-      go true none f = absurd (z (ap (λ (a : Answer). a .answer) (f ∙ sym (granted-none fuse))))
+      go true none f = absurd (z (ap (λ (a : Answer). a .answer) (f ∙ sym (granted-none 0 fuse))))
       go true (some x) f = f
       go false o f = f
 
@@ -122,7 +122,7 @@ module _ {img : Image} {r : Surveyed} (v : Surveys img r) where
           (t : Bool) (o : Option Fault)
           → r .answer ≡ answerOf 0 (test (not t) notPool (testFault o (granted 0 [])))
           → record { free = 0; reserved = 0; activating = 0; active = 0; freeing = 0 } ≡ totalsFor (test (not t) notPool (testFault o (granted 0 []))) (clumpsOf img)
-      go true none f = absurd (z (ap (λ (a : Answer). a .answer) (f ∙ sym (granted-none 0))))
+      go true none f = absurd (z (ap (λ (a : Answer). a .answer) (f ∙ sym (granted-none 0 0))))
       go true (some x) f = refl
       go false o f = refl
 

@@ -1,0 +1,2 @@
+-- What grow asks of the clump that was found, and the laws of its ways out.
+pub mod Enlarging

@@ -1,0 +1,2 @@
+-- What the crates that store a size ask of the bytes that they take.
+pub mod Fits

@@ -6,13 +6,12 @@ use mathlib.Core.Bool.{true, false}
 use mathlib.Core.Option.{Option, some, none}
 use mathlib.Core.List.{List, [], _∷_, _++_}
 use native.Mathlib.Omega.{arith}
-use lib.Dec.{leb}
 use lib.ListN.{length}
-use borrow.Author.Tests.{eq-eqb, ne-eqb, le-leb, lt-leb, leb-true, leb-false, lt-ltb, le-ltb}
+use borrow.Author.Tests.{eq-eqb, ne-eqb, le-leb, lt-leb, lt-ltb, le-ltb}
 use Rattle.rules.specs.declared.Answer.{Answer}
 use Rattle.rules.specs.Words.{Image, mem, store, wordBytes, wordValues}
-use Rattle.rules.specs.Clumps.{Head, head, headerBytes, isWaiting, walk}
-use Rattle.rules.specs.Answers.{Verdict, granted, refuse, sizeZero, noRoom, wrongState}
+use Rattle.rules.specs.Clumps.{Head, head, headerBytes, isWaiting}
+use Rattle.rules.specs.Answers.{granted, refuse, sizeZero, noRoom, wrongState}
 use Rattle.rules.specs.Stores.{needOf, leastRest, restHeader, growStores, freeAfter}
 use Rattle.rules.specs.Requests.{finder, found, enlarged, grown, grow}
 use Rattle.rules.specs.Reading.{clumpsOf, Tiled}

@@ -1,7 +1,7 @@
 // The requests as an owner in Rattle asks them who means no cut: the fuse is a constant, which the compiler sees. They are exported for
 // the hearing (tests/heard) alone: with the fuse known, the optimizer has the most to drop, join and move, if anything lets it.
 // `check` takes no fuse, and is not here.
-ghost use Rattle.rules.specs.declared.Request.the-variants.{Create, Reserve, ReserveUncleared, Onactive, Onfree, Withdraw, Activate, Free, Recover};
+ghost use Rattle.rules.specs.declared.Request.the-variants.{Create, Reserve, ReserveUncleared, Grow, Onactive, Onfree, Withdraw, Activate, Free, Recover};
 ghost use Rattle.rules.specs.Requests.{Does};
 ghost use Rattle.rules.specs.Cases.{longest};
 use rules::Answer;
@@ -28,6 +28,13 @@ pub extern "C" fn lasting_reserve_uncleared(img: &mut [u8], size: u64) -> Answer
     ensures { λ r. ⌜ Does (now (img .entry)) (ReserveUncleared size) longest (now (img .exit)) r ⌝ }
 {
     pool::reserve_uncleared(img, size, LASTING)
+}
+
+#[no_mangle]
+pub extern "C" fn lasting_grow(img: &mut [u8], offset: u64, size: u64) -> Answer
+    ensures { λ r. ⌜ Does (now (img .entry)) (Grow offset size) longest (now (img .exit)) r ⌝ }
+{
+    pool::grow(img, offset, size, LASTING)
 }
 
 #[no_mangle]

@@ -1,5 +1,5 @@
 -- A law for each way out of reserve, and what it asks of the clump that was found. Assumes nothing.
-use Prim.Native.Nat.{ℕ, _+_, _-_, _%_, _<_, _≤_}
+use Prim.Native.Nat.{ℕ, _+_, _-_, _<_, _≤_}
 use mathlib.Core.Path.{_≡_}
 use mathlib.Core.Bool.{Bool}
 use mathlib.Core.Option.{some, none}
@@ -9,8 +9,8 @@ use borrow.Author.Tests.{eq-eqb, ne-eqb, le-leb, lt-leb, leb-true}
 use Rattle.rules.specs.declared.Answer.{Answer}
 use Rattle.rules.specs.Lists.{seek}
 use Rattle.rules.specs.Words.{Image, Mem, mem, store, wordValues}
-use Rattle.rules.specs.Pages.{clumpsAt, unit}
-use Rattle.rules.specs.Clumps.{Head, head, isFree, headerBytes, leastClump, slots, Tiles, walk, offsetOf}
+use Rattle.rules.specs.Pages.{clumpsAt}
+use Rattle.rules.specs.Clumps.{Head, head, isFree, headerBytes, slots, Tiles, walk, offsetOf}
 use Rattle.rules.specs.Answers.{granted, refuse, sizeZero, noRoom}
 use Rattle.rules.specs.Stores.{needOf, fits, emptying, leastRest, restHeader, taking, reserveStores}
 use Rattle.rules.specs.Requests.{reserve}

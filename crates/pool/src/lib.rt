@@ -1,6 +1,6 @@
-// The pool: the ten requests of documents 01 and 02, and `ask`, which takes any of them. This is the library that an owner links.
+// The pool: the eleven requests of documents 01 and 02, and `ask`, which takes any of them. This is the library that an owner links.
 // Every function takes any bytes, any numbers and any fuse; a refusal changes no byte. The work is done in the crates below.
-ghost use Rattle.rules.specs.declared.Request.the-variants.{Create, Reserve, ReserveUncleared, Onactive, Onfree, Withdraw, Activate, Free, Recover};
+ghost use Rattle.rules.specs.declared.Request.the-variants.{Create, Reserve, ReserveUncleared, Grow, Onactive, Onfree, Withdraw, Activate, Free, Recover};
 ghost use Rattle.rules.specs.Requests.{Does};
 ghost use Rattle.survey.specs.Checking.{Checks};
 use rules::Answer;
@@ -26,6 +26,14 @@ pub fn reserve_uncleared(img: &mut [u8], size: u64, fuse: u64) -> Answer
     ensures { λ r. ⌜ Does (now (img .entry)) (ReserveUncleared size) fuse (now (img .exit)) r ⌝ }
 {
     place::reserve(img, size, false, fuse)
+}
+
+// The RESERVED or ACTIVE clump made larger where it stands, if it must be and the clump behind it has the room. The bytes that it gains are
+// not cleared.
+pub fn grow(img: &mut [u8], offset: u64, size: u64, fuse: u64) -> Answer
+    ensures { λ r. ⌜ Does (now (img .entry)) (Grow offset size) fuse (now (img .exit)) r ⌝ }
+{
+    enlarge::grow(img, offset, size, fuse)
 }
 
 // An assignment to be carried out when the RESERVED clump is activated.
@@ -77,7 +85,7 @@ pub fn recover(img: &mut [u8], fuse: u64) -> Answer
     mend::recover(img, fuse)
 }
 
-// Any of the ten requests.
+// Any of the eleven requests.
 pub fn ask(img: &mut [u8], q: Request, fuse: u64) -> Answer
     ensures { λ r. ⌜ Does (now (img .entry)) q fuse (now (img .exit)) r ⌝ }
 {
@@ -85,6 +93,7 @@ pub fn ask(img: &mut [u8], q: Request, fuse: u64) -> Answer
         Request::Create => create(img, fuse),
         Request::Reserve { size } => reserve(img, size, fuse),
         Request::ReserveUncleared { size } => reserve_uncleared(img, size, fuse),
+        Request::Grow { offset, size } => grow(img, offset, size, fuse),
         Request::Onactive {
             offset,
             target,

@@ -1,7 +1,7 @@
 // The library for C: one exported function for each request of the pool, under the names and with the answers of include/syrinthoa.h.
 // Assumes of a caller what C always owes: that `length` bytes at `img` are the caller's to lend, also none of them. Any bytes, numbers and
 // fuse will do; the contracts are those of `pool`.
-ghost use Rattle.rules.specs.declared.Request.the-variants.{Create, Reserve, ReserveUncleared, Onactive, Onfree, Withdraw, Activate, Free, Recover};
+ghost use Rattle.rules.specs.declared.Request.the-variants.{Create, Reserve, ReserveUncleared, Grow, Onactive, Onfree, Withdraw, Activate, Free, Recover};
 ghost use Rattle.rules.specs.Requests.{Does};
 ghost use Rattle.survey.specs.Checking.{Checks};
 use rules::Answer;
@@ -26,6 +26,13 @@ pub extern "C" fn syrinthoa_reserve_uncleared(img: &mut [u8], size: u64, fuse: u
     ensures { λ r. ⌜ Does (now (img .entry)) (ReserveUncleared size) fuse (now (img .exit)) r ⌝ }
 {
     pool::reserve_uncleared(img, size, fuse)
+}
+
+#[no_mangle]
+pub extern "C" fn syrinthoa_grow(img: &mut [u8], offset: u64, size: u64, fuse: u64) -> Answer
+    ensures { λ r. ⌜ Does (now (img .entry)) (Grow offset size) fuse (now (img .exit)) r ⌝ }
+{
+    pool::grow(img, offset, size, fuse)
 }
 
 #[no_mangle]

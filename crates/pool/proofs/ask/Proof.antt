@@ -25,29 +25,35 @@ reserve-uncleared-requires c κs = search needs
 enum-known-q-3 : tie.Need-enum-known-q-3
 enum-known-q-3 c = search needs
 
-onactive-requires : tie.Need-onactive-requires
-onactive-requires c κs = search needs
+grow-requires : tie.Need-grow-requires
+grow-requires c κs = search needs
 
 enum-known-q-4 : tie.Need-enum-known-q-4
 enum-known-q-4 c = search needs
 
-onfree-requires : tie.Need-onfree-requires
-onfree-requires c κs = search needs
+onactive-requires : tie.Need-onactive-requires
+onactive-requires c κs = search needs
 
 enum-known-q-5 : tie.Need-enum-known-q-5
 enum-known-q-5 c = search needs
 
-withdraw-requires : tie.Need-withdraw-requires
-withdraw-requires c κs = search needs
+onfree-requires : tie.Need-onfree-requires
+onfree-requires c κs = search needs
 
 enum-known-q-6 : tie.Need-enum-known-q-6
 enum-known-q-6 c = search needs
 
-activate-requires : tie.Need-activate-requires
-activate-requires c κs = search needs
+withdraw-requires : tie.Need-withdraw-requires
+withdraw-requires c κs = search needs
 
 enum-known-q-7 : tie.Need-enum-known-q-7
 enum-known-q-7 c = search needs
+
+activate-requires : tie.Need-activate-requires
+activate-requires c κs = search needs
+
+enum-known-q-8 : tie.Need-enum-known-q-8
+enum-known-q-8 c = search needs
 
 free-requires : tie.Need-free-requires
 free-requires c κs = search needs
@@ -86,43 +92,49 @@ same-length-4 : tie.Need-same-length-4
 same-length-4 c = search needs
 
 returns-4 : tie.Need-returns-4
-returns-4 c = rw (c .before .before .before .before .before .q3 .given .1) (c .before .before .onactive .ensures)
+returns-4 c = rw (c .before .before .before .before .before .q3 .given .1) (c .before .before .grow .ensures)
 
 same-length-5 : tie.Need-same-length-5
 same-length-5 c = search needs
 
 returns-5 : tie.Need-returns-5
-returns-5 c = rw (c .before .before .before .before .before .q4 .given .1) (c .before .before .onfree .ensures)
+returns-5 c = rw (c .before .before .before .before .before .q4 .given .1) (c .before .before .onactive .ensures)
 
 same-length-6 : tie.Need-same-length-6
 same-length-6 c = search needs
 
 returns-6 : tie.Need-returns-6
-returns-6 c = rw (c .before .before .before .before .before .q5 .given .1) (c .before .before .withdraw .ensures)
+returns-6 c = rw (c .before .before .before .before .before .q5 .given .1) (c .before .before .onfree .ensures)
 
 same-length-7 : tie.Need-same-length-7
 same-length-7 c = search needs
 
 returns-7 : tie.Need-returns-7
-returns-7 c = rw (c .before .before .before .before .before .q6 .given .1) (c .before .before .activate .ensures)
+returns-7 c = rw (c .before .before .before .before .before .q6 .given .1) (c .before .before .withdraw .ensures)
 
 same-length-8 : tie.Need-same-length-8
 same-length-8 c = search needs
 
 returns-8 : tie.Need-returns-8
-returns-8 c = rw (c .before .before .before .before .before .q7 .given .1) (c .before .before .free .ensures)
+returns-8 c = rw (c .before .before .before .before .before .q7 .given .1) (c .before .before .activate .ensures)
 
 same-length-9 : tie.Need-same-length-9
 same-length-9 c = search needs
 
 returns-9 : tie.Need-returns-9
-returns-9 c = rw (c .before .before .before .enum-told2 .given .1) (check-does _ _ _ (c .before .check .ensures))
+returns-9 c = rw (c .before .before .before .before .before .q8 .given .1) (c .before .before .free .ensures)
 
 same-length-10 : tie.Need-same-length-10
 same-length-10 c = search needs
 
 returns-10 : tie.Need-returns-10
-returns-10 c = rw (c .before .before .before .before .enum-told3 .given .1) (c .before .before .recover .ensures)
+returns-10 c = rw (c .before .before .before .enum-told2 .given .1) (check-does _ _ _ (c .before .check .ensures))
+
+same-length-11 : tie.Need-same-length-11
+same-length-11 c = search needs
+
+returns-11 : tie.Need-returns-11
+returns-11 c = rw (c .before .before .before .before .enum-told3 .given .1) (c .before .before .recover .ensures)
 
 pub ask-spec : {M : Type 1} → statement M
 ask-spec =
@@ -135,14 +147,16 @@ ask-spec =
     enum-known-q-2
     reserve-uncleared-requires
     enum-known-q-3
-    onactive-requires
+    grow-requires
     enum-known-q-4
-    onfree-requires
+    onactive-requires
     enum-known-q-5
-    withdraw-requires
+    onfree-requires
     enum-known-q-6
-    activate-requires
+    withdraw-requires
     enum-known-q-7
+    activate-requires
+    enum-known-q-8
     free-requires
     enum-told-2
     check-requires
@@ -167,4 +181,6 @@ ask-spec =
     same-length-9
     returns-9
     same-length-10
-    returns-10)
+    returns-10
+    same-length-11
+    returns-11)

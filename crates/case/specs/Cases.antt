@@ -8,7 +8,7 @@ use lib.Dec.{eqb, ltb}
 use lib.ListN.{getD}
 use borrow.Author.Tests.{ltb-false}
 use Rattle.rules.specs.declared.Request.{Request}
-use Rattle.rules.specs.declared.Request.the-variants.{Create, Reserve, ReserveUncleared, Onactive, Onfree, Withdraw, Activate, Free, Check, Recover}
+use Rattle.rules.specs.declared.Request.the-variants.{Create, Reserve, ReserveUncleared, Grow, Onactive, Onfree, Withdraw, Activate, Free, Check, Recover}
 use Rattle.case.specs.declared.Case.{Case}
 use Rattle.case.specs.declared.Case.the-variants.{Asked, Malformed}
 
@@ -24,7 +24,7 @@ mostWords = 120
 
 -- the largest number of a request
 abbrev pub mostRequest : ℕ
-mostRequest = 9
+mostRequest = 10
 
 -- the request of a number up to it
 unfoldable pub requestOf : ℕ → ℕ → ℕ → ℕ → Request
@@ -37,7 +37,8 @@ requestOf q a b c =
     (cond (eqb q 5) (Activate a)
     (cond (eqb q 6) (Free a)
     (cond (eqb q 7) Check
-    (cond (eqb q 8) Recover (ReserveUncleared a)))))))))
+    (cond (eqb q 8) Recover
+    (cond (eqb q 9) (ReserveUncleared a) (Grow a b))))))))))
 
 -- the number at an index
 abbrev pub at : List ℕ → ℕ → ℕ

@@ -18,7 +18,7 @@ pub enum Case {
     Malformed,
 }
 
-// The request of that number; 9 and what is above it are reserve_uncleared.
+// The request of that number; 10 and what is above it are grow.
 fn request_of(q: u64, a: u64, b: u64, c: u64) -> Request
     ensures { λ r. ⌜ r ≡ requestOf q a b c ⌝ }
 {
@@ -40,7 +40,8 @@ fn request_of(q: u64, a: u64, b: u64, c: u64) -> Request
         6 => Request::Free { offset: a },
         7 => Request::Check,
         8 => Request::Recover,
-        _ => Request::ReserveUncleared { size: a },
+        9 => Request::ReserveUncleared { size: a },
+        _ => Request::Grow { offset: a, size: b },
     }
 }
 
@@ -66,7 +67,7 @@ pub fn case_of(numbers: &[u64; 256], count: usize) -> Case
         return Case::Malformed;
     }
     let q = numbers[at];
-    if 9 < q {
+    if 10 < q {
         return Case::Malformed;
     }
     Case::Asked {

@@ -5,7 +5,7 @@ use mathlib.Core.Path.{_≡_, refl}
 use mathlib.Core.List.{List, [], _∷_, _++_, map}
 use lib.ListN.{replicate}
 use Rattle.rules.specs.Cases.{longest}
-use Rattle.rules.specs.declared.Request.the-variants.{Reserve, ReserveUncleared, Onactive, Onfree, Withdraw, Activate, Free, Recover}
+use Rattle.rules.specs.declared.Request.the-variants.{Reserve, ReserveUncleared, Grow, Onactive, Onfree, Withdraw, Activate, Free, Recover}
 use Rattle.line.specs.declared.Line.{Line}
 use Rattle.line.specs.declared.Line.the-variants.{Ask, Fuse, Walk, Bad}
 use Rattle.rules.specs.Pages.{codes}
@@ -30,17 +30,17 @@ Examples =
     -- each name with its numbers
     (map lineFor ("reserve 1000" ∷ "reserve_uncleared 1000" ∷ "onactive 16448 4096 7" ∷ "onfree 16448 4096 0" ∷ "withdraw 16448" ∷ [])
     ≡ Ask (Reserve 1000) ∷ Ask (ReserveUncleared 1000) ∷ Ask (Onactive 16448 4096 7) ∷ Ask (Onfree 16448 4096 0) ∷ Ask (Withdraw 16448) ∷ [])
-    × (map lineFor ("activate 16448" ∷ "free 16448" ∷ "recover" ∷ "fuse 3" ∷ "walk" ∷ [])
-    ≡ Ask (Activate 16448) ∷ Ask (Free 16448) ∷ Ask Recover ∷ Fuse 3 ∷ Walk ∷ [])
+    × (map lineFor ("grow 16448 1000" ∷ "activate 16448" ∷ "free 16448" ∷ "recover" ∷ "fuse 3" ∷ "walk" ∷ [])
+    ≡ Ask (Grow 16448 1000) ∷ Ask (Activate 16448) ∷ Ask (Free 16448) ∷ Ask Recover ∷ Fuse 3 ∷ Walk ∷ [])
     -- other names, none, capitals, a wrong count of numbers
-    × (map lineFor ("create" ∷ "check" ∷ "" ∷ "Walk" ∷ "walks" ∷ "wal" ∷ "reserve" ∷ "reserve_uncleared" ∷ "reserve-uncleared 1" ∷ "recover 1" ∷ "reserve 1 2" ∷ "reserve_uncleared 1 2" ∷ "onfree 1 2" ∷ "onfree 1 2 3 4" ∷ "1000" ∷ [])
-    ≡ replicate 15 Bad)
+    × (map lineFor ("create" ∷ "check" ∷ "" ∷ "Walk" ∷ "walks" ∷ "wal" ∷ "reserve" ∷ "reserve_uncleared" ∷ "reserve-uncleared 1" ∷ "recover 1" ∷ "reserve 1 2" ∷ "reserve_uncleared 1 2" ∷ "grow 1" ∷ "grow 1 2 3" ∷ "onfree 1 2" ∷ "onfree 1 2 3 4" ∷ "1000" ∷ [])
+    ≡ replicate 17 Bad)
     -- spaces in front, behind and in pairs, a tab, a carriage return
     × (map lineFor (" walk" ∷ "walk " ∷ "reserve  1000" ∷ "reserve 1000 " ∷ " " ∷ "onfree 1 2  3" ∷ "reserve\t1000" ∷ "walk\r" ∷ [])
     ≡ replicate 8 Bad)
     -- digits only, judged by their value: the largest word, the one past it, zeros in front
-    × (map lineFor ("reserve 1a" ∷ "reserve +1" ∷ "reserve -1" ∷ "reserve 1:" ∷ "reserve 1/" ∷ "reserve 18446744073709551616" ∷ "onactive 1 2 99999999999999999999" ∷ [])
-    ≡ replicate 7 Bad)
+    × (map lineFor ("reserve 1a" ∷ "reserve +1" ∷ "reserve -1" ∷ "reserve 1:" ∷ "reserve 1/" ∷ "reserve 18446744073709551616" ∷ "onactive 1 2 99999999999999999999" ∷ "grow 1 18446744073709551616" ∷ "grow 1 2x" ∷ [])
+    ≡ replicate 9 Bad)
     × (map lineFor ("reserve 18446744073709551615" ∷ "fuse 00018446744073709551615" ∷ "free 0" ∷ "free 007" ∷ [])
     ≡ Ask (Reserve 18446744073709551615) ∷ Fuse 18446744073709551615 ∷ Ask (Free 0) ∷ Ask (Free 7) ∷ [])
     -- lines of 200 and of 201 bytes

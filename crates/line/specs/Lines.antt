@@ -9,7 +9,7 @@ use lib.ListN.{length}
 use Rattle.rules.specs.Words.{wordValues}
 use Rattle.rules.specs.Pages.{codes}
 use Rattle.rules.specs.Cases.{longest}
-use Rattle.rules.specs.declared.Request.the-variants.{Reserve, ReserveUncleared, Onactive, Onfree, Withdraw, Activate, Free, Recover}
+use Rattle.rules.specs.declared.Request.the-variants.{Reserve, ReserveUncleared, Grow, Onactive, Onfree, Withdraw, Activate, Free, Recover}
 use Rattle.text.specs.Texts.{space, zeroDigit}
 use Rattle.line.specs.declared.Line.{Line}
 use Rattle.line.specs.declared.Line.the-variants.{Ask, Fuse, Walk, Bad}
@@ -68,8 +68,8 @@ named name [] = Bad
 named name (e ∷ es) = elim (same name (codes (e .0))) [ true ↦ e .1 | false ↦ named name es ]
 
 -- "Each input line is a request name (not create or check) and decimal numbers: size; or offset; or offset, target, value; recover takes
--- none." Besides there are `fuse k` and `walk`, and W5's "second form of the request". The names that take these numbers, each with its
--- line:
+-- none." Besides there are `fuse k` and `walk`, W5's "second form of the request", and W6's "new request: a live clump .., a new body size".
+-- The names that take these numbers, each with its line:
 unfoldable pub commands : List ℕ → List (String × Line)
 commands [] = ("recover", Ask Recover) ∷ ("walk", Walk) ∷ []
 commands (n ∷ []) =
@@ -80,7 +80,7 @@ commands (n ∷ []) =
     ∷ ("free", Ask (Free n))
     ∷ ("fuse", Fuse n)
     ∷ []
-commands (o ∷ t ∷ []) = []
+commands (o ∷ n ∷ []) = ("grow", Ask (Grow o n)) ∷ []
 commands (o ∷ t ∷ v ∷ []) = ("onactive", Ask (Onactive o t v)) ∷ ("onfree", Ask (Onfree o t v)) ∷ []
 commands (o ∷ t ∷ v ∷ n ∷ ns) = []
 

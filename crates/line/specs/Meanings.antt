@@ -74,20 +74,16 @@ module _ (name s : List ℕ) (e : ℕ) (at : e ≡ spaceAt s) where
 
   -- after the name and an offset
   module _ (o : ℕ) where
-    pub two-numbers : e ≡ length s → Bad ≡ command name (followed (some o) (numbers (fields s)))
-    unfolding numbers command named commands
-    two-numbers l = rw (last-field s e at l) (go (number (take e s)))
-      where
-        go : (n : Option ℕ) → Bad ≡ command name (followed (some o) (followed n (some [])))
-        go none = refl
-        go (some n) = refl
+    pub second-not : number (take e s) ≡ none → Bad ≡ command name (followed (some o) (numbers (fields s)))
+    unfolding numbers command
+    second-not q = whole-or-not s (λ w. rw (last-field s e at (at ∙ w), q)) (λ w. rw (next-field s e at (λ l. w (sym at ∙ l)), q))
 
-    module _ (l : e ≡ length s → ⊥) where
-      pub target-not : number (take e s) ≡ none → Bad ≡ command name (followed (some o) (numbers (fields s)))
+    module _ (t : ℕ) (q : number (take e s) ≡ some t) where
+      pub two-numbers : e ≡ length s → named name (commands (o ∷ t ∷ [])) ≡ command name (followed (some o) (numbers (fields s)))
       unfolding numbers command
-      target-not q = rw (next-field s e at l, q)
+      two-numbers l = rw (last-field s e at l, q)
 
-      module _ (t : ℕ) (q : number (take e s) ≡ some t) where
+      module _ (l : e ≡ length s → ⊥) where
         pub value-not : number (behind s e) ≡ none → Bad ≡ command name (followed (some o) (numbers (fields s)))
         unfolding numbers
         value-not z = rw (next-field s e at l, q) (sym (third-not name o t (behind s e) z))

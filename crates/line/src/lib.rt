@@ -168,6 +168,18 @@ fn with_one(name: &[u8], n: u64) -> Line
     Line::Bad
 }
 
+// The line of a name, an offset and a size.
+fn with_two(name: &[u8], offset: u64, size: u64) -> Line
+    ensures { λ r. ⌜ r ≡ named (now (name .entry)) (commands (offset ∷ size ∷ [])) ⌝ }
+{
+    if same(name, b"grow") {
+        return Line::Ask {
+            q: Request::Grow { offset, size },
+        };
+    }
+    Line::Bad
+}
+
 // The line of a name, an offset, a target and a value.
 fn with_three(name: &[u8], offset: u64, target: u64, value: u64) -> Line
     ensures { λ r. ⌜ r ≡ named (now (name .entry)) (commands (offset ∷ target ∷ value ∷ [])) ⌝ }
@@ -193,21 +205,21 @@ fn with_three(name: &[u8], offset: u64, target: u64, value: u64) -> Line
     Line::Bad
 }
 
-// The line of a name and an offset, with a target and a value to follow.
+// The line of a name and an offset, with a size to follow, or a target and a value.
 fn with_offset(name: &[u8], offset: u64, rest: &[u8]) -> Line
     ensures { λ r. ⌜ r ≡ command (now (name .entry)) (followed (some offset) (numbers (fields (now (rest .entry))))) ⌝ }
 {
     let e = space(rest);
+    let Number::Is(second) = value(&rest[..e]) else {
+        return Line::Bad;
+    };
     if e == rest.len() {
-        return Line::Bad;
+        return with_two(name, offset, second);
     }
-    let Number::Is(target) = value(&rest[..e]) else {
+    let Number::Is(third) = value(&rest[e + 1..]) else {
         return Line::Bad;
     };
-    let Number::Is(value) = value(&rest[e + 1..]) else {
-        return Line::Bad;
-    };
-    with_three(name, offset, target, value)
+    with_three(name, offset, second, third)
 }
 
 // The line of a name and the text after it.

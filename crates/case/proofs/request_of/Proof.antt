@@ -42,7 +42,11 @@ returns-9 c = rw (c .match .keys9)
 
 returns-10 : tie.Need-returns-10
 unfolding requestOf
-returns-10 c = let n = c .match .rest in simp (ne-eqb _ _ (n .1), ne-eqb _ _ (n .0 .1), ne-eqb _ _ (n .0 .0 .1), ne-eqb _ _ (n .0 .0 .0 .1), ne-eqb _ _ (n .0 .0 .0 .0 .1), ne-eqb _ _ (n .0 .0 .0 .0 .0 .1), ne-eqb _ _ (n .0 .0 .0 .0 .0 .0 .1), ne-eqb _ _ (n .0 .0 .0 .0 .0 .0 .0 .1), ne-eqb _ _ (n .0 .0 .0 .0 .0 .0 .0 .0 .1))
+returns-10 c = rw (c .match .keys10)
+
+returns-11 : tie.Need-returns-11
+unfolding requestOf
+returns-11 c = let n = c .match .rest in simp (ne-eqb _ _ (n .1), ne-eqb _ _ (n .0 .1), ne-eqb _ _ (n .0 .0 .1), ne-eqb _ _ (n .0 .0 .0 .1), ne-eqb _ _ (n .0 .0 .0 .0 .1), ne-eqb _ _ (n .0 .0 .0 .0 .0 .1), ne-eqb _ _ (n .0 .0 .0 .0 .0 .0 .1), ne-eqb _ _ (n .0 .0 .0 .0 .0 .0 .0 .1), ne-eqb _ _ (n .0 .0 .0 .0 .0 .0 .0 .0 .1), ne-eqb _ _ (n .0 .0 .0 .0 .0 .0 .0 .0 .0 .1))
 
 pub request-of-spec : {M : Type 1} → statement M
 request-of-spec =
@@ -57,4 +61,5 @@ request-of-spec =
     returns-7
     returns-8
     returns-9
-    returns-10)
+    returns-10
+    returns-11)

@@ -43,14 +43,15 @@ struct syrinthoa_answer {
     uint64_t flush_to;
 };
 
-/* Answers, in the order of the tests: the first that holds is given. 1 to 10 are refusals, and store nothing. */
+/* Answers, in the order of the tests (but syrinthoa_grow tests for NO_ROOM last): the first that holds is given. 1 to 10 are refusals, and
+ * store nothing. */
 enum {
     SYRINTHOA_DONE = 0,
     SYRINTHOA_NOT_A_POOL = 1,  /* the length (16,512 to 1,073,741,824, divisible by 64), the signature, the total size or the padding */
     SYRINTHOA_NOT_SOUND = 2,   /* a fault in a clump; `fault` says which, `place` where */
     SYRINTHOA_UNSETTLED = 3,   /* a power loss left something unfinished: ask for recovery first */
     SYRINTHOA_SIZE_ZERO = 4,
-    SYRINTHOA_NO_ROOM = 5,     /* no FREE clump is large enough */
+    SYRINTHOA_NO_ROOM = 5,     /* no FREE clump is large enough; to grow: the next clump is not FREE, missing, or too small */
     SYRINTHOA_NO_CLUMP = 6,    /* no clump has its body at that offset */
     SYRINTHOA_WRONG_STATE = 7, /* the clump's state does not allow it */
     SYRINTHOA_LIST_FULL = 8,   /* the list's third entry is used; it may be so with fewer than three assignments listed */
@@ -152,6 +153,15 @@ struct syrinthoa_answer syrinthoa_activate(uint8_t *image, size_t length, uint64
  * RESERVED one some of syrinthoa_onactive's assignments may be off the list by then, so that recovery is to be asked for before anything
  * else. From FREEING on recovery finishes the request: every one of syrinthoa_onfree's assignments is made. */
 struct syrinthoa_answer syrinthoa_free(uint8_t *image, size_t length, uint64_t offset, uint64_t fuse);
+
+/* Grows the body of the RESERVED or ACTIVE clump to `size` bytes or more, where it stands: its offset stays, and so do its bytes and its
+ * list. If the body is large enough already, nothing is stored; it never shrinks. Else the FREE clump just behind it is taken, as much of
+ * it as is needed: 3 stores, or 1 where no rest is left or one too small to be parted, which is taken along. The added bytes are not
+ * cleared: they are what they were, perhaps those of a record that was freed, the header of the clump that was taken among them.
+ * Answers DONE, with the offset as place; NOT_A_POOL, NOT_SOUND, UNSETTLED, SIZE_ZERO, NO_CLUMP, WRONG_STATE, NO_ROOM, in this order; CUT.
+ * Its last store is what makes it grow: a power loss before that leaves the pool as if it had not been asked, and after it done. A RESERVED
+ * clump is gone after a power loss, as ever. */
+struct syrinthoa_answer syrinthoa_grow(uint8_t *image, size_t length, uint64_t offset, uint64_t size, uint64_t fuse);
 
 /* Judges the image, and adds up the bytes in each state. It stores nothing.
  * Answers DONE, with totals that add up to the length less 16384; NOT_A_POOL, NOT_SOUND, with totals of 0. */

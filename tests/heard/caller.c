@@ -35,8 +35,9 @@ extern answer lasting_activate(uint8_t *, size_t, uint64_t);
 extern answer lasting_free(uint8_t *, size_t, uint64_t);
 extern answer lasting_recover(uint8_t *, size_t);
 extern answer lasting_reserve_uncleared(uint8_t *, size_t, uint64_t);
+extern answer lasting_grow(uint8_t *, size_t, uint64_t, uint64_t);
 
-enum { CREATE, RESERVE, ONACTIVE, ONFREE, WITHDRAW, ACTIVATE, FREE, CHECK, RECOVER, RESERVE_UNCLEARED };
+enum { CREATE, RESERVE, ONACTIVE, ONFREE, WITHDRAW, ACTIVATE, FREE, CHECK, RECOVER, RESERVE_UNCLEARED, GROW };
 
 struct asked {
     uint64_t request, a, b, c, fuse;
@@ -57,6 +58,7 @@ static answer with_fuse(uint8_t *image, size_t length, struct asked q) {
     case ACTIVATE: return syrinthoa_activate(image, length, q.a, q.fuse);
     case FREE: return syrinthoa_free(image, length, q.a, q.fuse);
     case RESERVE_UNCLEARED: return syrinthoa_reserve_uncleared(image, length, q.a, q.fuse);
+    case GROW: return syrinthoa_grow(image, length, q.a, q.b, q.fuse);
     default: return syrinthoa_recover(image, length, q.fuse);
     }
 }
@@ -71,6 +73,7 @@ static answer lasting(uint8_t *image, size_t length, struct asked q) {
     case ACTIVATE: return lasting_activate(image, length, q.a);
     case FREE: return lasting_free(image, length, q.a);
     case RESERVE_UNCLEARED: return lasting_reserve_uncleared(image, length, q.a);
+    case GROW: return lasting_grow(image, length, q.a, q.b);
     default: return lasting_recover(image, length);
     }
 }

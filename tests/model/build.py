@@ -161,6 +161,14 @@ def with_old_body(image, offset, nbytes, old):
     return with_words(image, {offset + 8 * at: old[at % 8] for at in range(nbytes // 8)})
 
 
+# A header of before, in each 64 bytes: where the header of a rest goes, and its state
+# isn't stored, a clump that isn't FREE stands there, with a list.
+OLD_HEADER = (832, ACTIVE, 4096, 1, 4105, 2, 16448, 3)
+
+# These by turns.
+OLD_WORDS = (OLD_RECORD, OLD_HEADER, OLD_BYTES)
+
+
 # A FREE clump with old words in its list and its body, at 16512 (body 16576) between
 # two ACTIVE ones, whose nearest words are old ones too.
 def dirty_pool(nbytes, old):
@@ -168,6 +176,21 @@ def dirty_pool(nbytes, old):
                     clump(128, ACTIVE))
     image = with_old_body(image, 16576, nbytes - 64, old)
     return with_words(image, {16504: 91, 16512 + nbytes + 64: 92})
+
+
+# The body of the clump that is to grow, in the pool below.
+GROWING = 16576
+
+
+# A live clump at 16512, every word of its body its own, with a FREE one behind it that
+# has old words in its list and its body (W6 of document 02); before them an ACTIVE clump,
+# and behind them another, whose nearest words are old ones too.
+def growing_pool(state, nbytes, following, old, *entries, last=ACTIVE):
+    image = pool_of(clump(128, ACTIVE), clump(nbytes, state, *entries),
+                    clump(following, FREE, (1, 2), (3, 4), (5, 6)), clump(128, last))
+    image = with_words(image, {at: at + 1 for at in range(GROWING, 16512 + nbytes, 8)})
+    image = with_old_body(image, GROWING + nbytes, following - 64, old)
+    return with_words(image, {16504: 91, GROWING + nbytes + following: 92})
 
 
 def flip_bit(image, offset, bit):
@@ -213,7 +236,8 @@ MIXED_REQUESTS = (
     ("reserve", (100,)), ("onactive", (MIXED_BARE_RESERVED, 4096, 1)),
     ("onfree", (MIXED_ACTIVE, 4096, 1)), ("withdraw", (MIXED_RESERVED,)),
     ("activate", (MIXED_RESERVED,)), ("free", (MIXED_ACTIVE,)),
-    ("check", ()), ("recover", ()), ("reserve_uncleared", (100,)))
+    ("check", ()), ("recover", ()), ("reserve_uncleared", (100,)),
+    ("grow", (MIXED_ACTIVE, 200)))
 
 
 # A pool with one clump in the given state, FREE on both sides of it.

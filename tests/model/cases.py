@@ -7,11 +7,12 @@ tries.  A case that an earlier family has given already is left out.
 import pool
 from pool import FREE, RESERVED, ACTIVATING, ACTIVE, FREEING, LARGEST
 from build import (
-    Dice, EDGE_NUMBERS, EMPTY, FORMS, MARKED, MIXED, MIXED_ACTIVE, MIXED_BARE_ACTIVE,
-    MIXED_BARE_RESERVED, MIXED_FREE, MIXED_REQUESTS, MIXED_RESERVED, MIXTURES,
-    OLD_BYTES, OLD_RECORD, UNMARKED, after, case, clump, dirty_pool, dusty, entry,
-    filled, flip_bit, fresh, mixed_entries, mixture_pool, pool_header, pool_of,
-    stores_of, telling_fuses, unfinished, with_old_body, with_words, zeros_of)
+    Dice, EDGE_NUMBERS, EMPTY, FORMS, GROWING, MARKED, MIXED, MIXED_ACTIVE,
+    MIXED_BARE_ACTIVE, MIXED_BARE_RESERVED, MIXED_FREE, MIXED_REQUESTS, MIXED_RESERVED,
+    MIXTURES, OLD_BYTES, OLD_HEADER, OLD_RECORD, OLD_WORDS, UNMARKED, after, case, clump,
+    dirty_pool, dusty, entry, filled, flip_bit, fresh, growing_pool, mixed_entries,
+    mixture_pool, pool_header, pool_of, stores_of, telling_fuses, unfinished,
+    with_old_body, with_words, zeros_of)
 
 # ---------------------------------------------------------------------------
 # Not a pool
@@ -284,7 +285,8 @@ REFUSABLE = (
     ("withdraw", (16448,)), ("activate", (0,)), ("activate", (16448,)),
     ("free", (LARGEST,)), ("free", (16448,)), ("check", ()), ("recover", ()),
     ("reserve_uncleared", (0,)), ("reserve_uncleared", (LARGEST,)),
-    ("reserve_uncleared", (1,)))
+    ("reserve_uncleared", (1,)), ("grow", (16448, 0)), ("grow", (16448, LARGEST)),
+    ("grow", (5, 1)), ("grow", (16448, 1)))
 
 
 # Answer 3 by each of its reasons and before each later answer; check and
@@ -308,7 +310,8 @@ def settled_after_all():
     for name, numbers in (("check", ()), ("recover", ()), ("reserve", (64,)),
                           ("withdraw", (16576,)), ("activate", (16576,)),
                           ("free", (16576,)), ("free", (16832,)),
-                          ("reserve_uncleared", (64,))):
+                          ("reserve_uncleared", (64,)), ("grow", (16576, 128)),
+                          ("grow", (16832, 192)), ("grow", (16832, 193))):
         yield case(image, name, *numbers)
 
 
@@ -361,14 +364,16 @@ def first_fits():
         yield from both_forms(image, size)
 
 
-# Sizes whose rounding or header would wrap, where there is room and where there
-# is none; and size 0 with and without room.
+# Sizes whose rounding or header would wrap, and 0.
+HUGE_SIZES = EDGE_NUMBERS + (2**64 - 127, 2**64 - 129, 2**64 - 16448, 2**63 - 64,
+                             2**32 - 64, 2**32 + 1, 2**16)
+
+
+# These, where there is room and where there is none; and size 0 with and without room.
 def huge_sizes():
     roomy = fresh(32768)
     full = pool_of(clump(128, ACTIVE), clump(128, RESERVED))
-    sizes = EDGE_NUMBERS + (2**64 - 127, 2**64 - 129, 2**64 - 16448, 2**63 - 64,
-                            2**32 - 64, 2**32 + 1, 2**16)
-    for size in sizes:
+    for size in HUGE_SIZES:
         yield from both_forms(roomy, size)
         yield from both_forms(full, size)
 
@@ -390,6 +395,7 @@ def offsets_asked():
         yield case(MIXED, "withdraw", offset)
         yield case(MIXED, "activate", offset)
         yield case(MIXED, "free", offset)
+        yield case(MIXED, "grow", offset, 200)
 
 
 # Onactive and onfree with targets on both sides of each border.
@@ -588,9 +594,19 @@ def recover_other_choices():
     yield to_reserved, "recover", ()
 
 
+# Grow with rests of 128 and of more, 64 and 0, over old words where the rest's header
+# goes: of ACTIVE and RESERVED clumps with full lists, before an ACTIVE or a RESERVED one.
+def grow_choices():
+    entries = [(4096, 7), (4105, 8), (16576, 9)]
+    for state, following, last in ((ACTIVE, 512, RESERVED), (RESERVED, 320, ACTIVE),
+                                   (ACTIVE, 256, ACTIVE), (RESERVED, 192, RESERVED)):
+        image = growing_pool(state, 128, following, OLD_HEADER, *entries, last=last)
+        yield image, "grow", (GROWING, 200)
+
+
 CHOICES = (reserve_choices, list_choices, withdraw_choices, activate_choices,
            free_choices, recover_unfinished_choices, recover_other_choices,
-           reserve_uncleared_choices)
+           reserve_uncleared_choices, grow_choices)
 
 
 def all_choices():
@@ -631,6 +647,10 @@ def fuses_of_refusals():
         yield case(MIXED, "withdraw", MIXED_BARE_ACTIVE, fuse=fuse)
         yield case(MIXED, "onactive", MIXED_BARE_RESERVED, 8192, 1, fuse=fuse)
         yield case(MIXED, "activate", MIXED_ACTIVE, fuse=fuse)
+        yield case(MIXED, "grow", MIXED_ACTIVE, 0, fuse=fuse)
+        yield case(MIXED, "grow", MIXED_ACTIVE, 385, fuse=fuse)
+        yield case(MIXED, "grow", 5, 1, fuse=fuse)
+        yield case(MIXED, "grow", MIXED_FREE, 1, fuse=fuse)
 
 
 # Create over an image in which every byte is 165, with each fuse from 0 to its
@@ -747,7 +767,7 @@ def dust():
 # is its place here.
 FIRST_NAMES = ("create", "reserve", "onactive", "onfree", "withdraw", "activate",
                "free", "check", "recover")
-REQUEST_NAMES = FIRST_NAMES + ("reserve_uncleared",)
+REQUEST_NAMES = FIRST_NAMES + ("reserve_uncleared", "grow")
 
 
 def some_target(dice, length):
@@ -764,6 +784,8 @@ def some_numbers(dice, image, name, bodies):
     if name in FORMS:
         return (size,)
     offset = dice.pick(bodies)
+    if name == "grow":
+        return offset, size
     numbers = (offset, some_target(dice, max(len(image), 16512)), dice.word())
     return numbers[:pool.NUMBERS_TAKEN[name]]
 
@@ -911,7 +933,7 @@ def damage():
 # The states that each request on an offset asks for.
 STATES_WANTED = {"onactive": (RESERVED,), "activate": (RESERVED,),
                  "onfree": (RESERVED, ACTIVE), "free": (ACTIVE, RESERVED),
-                 "withdraw": (RESERVED, ACTIVE)}
+                 "withdraw": (RESERVED, ACTIVE), "grow": (RESERVED, ACTIVE)}
 
 # What a history is made of: more is reserved than freed, so the pool fills.
 HISTORY_NAMES = ("reserve",) * 5 + ("onactive",) * 4 + ("onfree",) * 3 + (
@@ -1011,10 +1033,17 @@ def kept_assignment_choices():
     yield with_words(unfinished(ACTIVATING, *entries), words), "recover", ()
 
 
+# Grow with a rest whose header stands already.
+def kept_grow_choices():
+    image = pool_of(clump(128, ACTIVE), clump(512, FREE))
+    yield with_words(image, {16576: 448, 16584: FREE}), "grow", (16448, 65)
+
+
 # Each cut of these requests, some of whose stores keep their words: the changed
 # words alone would give fewer bytes to flush.
 def kept_words():
-    for choices in (kept_reserve_choices, kept_list_choices, kept_assignment_choices):
+    for choices in (kept_reserve_choices, kept_list_choices, kept_assignment_choices,
+                    kept_grow_choices):
         for image, name, numbers in choices():
             for fuse in range(stores_of(image, name, numbers) + 1):
                 yield case(image, name, *numbers, fuse=fuse)
@@ -1479,6 +1508,253 @@ def histories_of_both_forms():
         yield from history(Dice(seed), names, seed % 2, telling_fuses)
 
 
+# ---------------------------------------------------------------------------
+# Grow a record where it stands (W6 of document 02)
+# ---------------------------------------------------------------------------
+
+# Sizes round each multiple of 64: a body of 128 is enough already; then rests of 256, of
+# 192, of 128 and smaller, none, and no room.  The clump grows by 64 bytes and by more.
+def sizes_grown():
+    for state in (RESERVED, ACTIVE):
+        image = growing_pool(state, 192, 320, OLD_RECORD)
+        for multiple in range(0, 576, 64):
+            for size in (multiple - 1, multiple, multiple + 1):
+                if size >= 0:
+                    yield case(image, "grow", GROWING, size)
+
+
+# The nbytes of a clump, and a size that it is to grow to: by 64 bytes (128 are the least
+# that a FREE clump has), by 128, by 192 and by 256.
+GROWTHS = ((128, 65), (128, 129), (192, 300), (256, 420))
+
+
+# Each of them with a FREE clump from 64 too small (where that is 128 or more) up to a rest
+# of 192, RESERVED and ACTIVE; over each kind of old words, with a full list or one with
+# gaps, by turns.  (image, numbers)
+def growing_choices(last):
+    turn = 0
+    for nbytes, size in GROWTHS:
+        more = pool.need_of(size) - nbytes
+        for following in range(max(more - 64, 128), more + 256, 64):
+            for state in (RESERVED, ACTIVE):
+                mixture = TELLING_MIXTURES[turn % 2] if turn % 3 else (EMPTY, MARKED, EMPTY)
+                yield (growing_pool(state, nbytes, following, OLD_WORDS[turn % 3],
+                                    *mixed_entries(mixture), last=last), (GROWING, size))
+                turn += 1
+
+
+# Every cut of these: each store changes its word, so that the image between two of them
+# tells which came first, and which words are stored: the rest's nbytes and state and the
+# clump's nbytes, none of a list, a body, or the old next header.
+def growing_choices_cut():
+    for image, numbers in growing_choices(ACTIVE):
+        yield from cut_everywhere(image, "grow", *numbers)
+
+
+# Recovery behind the last store but one, and behind the last, RESERVED and ACTIVE by
+# turns.  Without the last it is that of the pool that wasn't asked: an ACTIVE clump has
+# the old size, a RESERVED one is dropped.  What is FREE behind it is joined to the last
+# clump, which was RESERVED.
+def growing_choices_recovered():
+    for index, (image, numbers) in enumerate(growing_choices(RESERVED)):
+        length = stores_of(image, "grow", numbers)
+        for fuse in range(max(length - 1, 1), length + 1) if index % 4 in (0, 3) else ():
+            yield case(after(image, "grow", *numbers, fuse=fuse), "recover")
+
+
+# What stands behind the clump: nothing, a RESERVED clump, an ACTIVE one, FREE ones of 128
+# and of 192.  A FREE clump before it, which would do, isn't taken, nor is one further on.
+# Sizes that are enough, up to one that no clump behind it reaches.
+def next_clumps():
+    further = (clump(128, ACTIVE), clump(704, FREE))
+    for state in (RESERVED, ACTIVE):
+        for behind in ((), (clump(512, RESERVED), *further), (clump(512, ACTIVE), *further),
+                       (clump(128, FREE), *further), (clump(192, FREE), *further)):
+            image = pool_of(clump(512, FREE), clump(192, state), *behind)
+            for size in (128, 129, 256, 257, 321):
+                yield case(image, "grow", 16960, size)
+
+
+# A fuse means nothing to a clump that has enough: it is done with any.
+def enough_with_any_fuse():
+    for offset, size in ((MIXED_ACTIVE, 192), (MIXED_RESERVED, 65), (MIXED_BARE_ACTIVE, 1)):
+        for fuse in (0, 1):
+            yield case(MIXED, "grow", offset, size, fuse=fuse)
+
+
+# The huge sizes with room behind the clump, and where it is the last; some of them for a
+# FREE clump and for none, where 7 and 6 come first.
+def huge_sizes_grown():
+    for index, size in enumerate(HUGE_SIZES):
+        state = (ACTIVE, RESERVED)[index % 2]
+        yield case(pool_of(clump(128, state), clump(16256, FREE)), "grow", 16448, size)
+        yield case(pool_of(clump(128, FREE), clump(128, state)), "grow", 16576, size)
+    for size in (2**64 - 64, LARGEST):
+        for offset in (MIXED_FREE, 17472, 16456, LARGEST):
+            yield case(MIXED, "grow", offset, size)
+
+
+# The order of the tests, 4 before 6 and 7, these before 5: of no clump (0, a header, the
+# middle of a body, past the end, one that wraps), of FREE ones, of live ones before a FREE
+# clump and before a live one; size 0, one that is enough, and one that has no room.
+def tests_of_grow_in_order():
+    for offset in (0, 16384, 16448, 16456, 16512, 16640, 16704, 16896, 17088, 17344,
+                   17472, 17920, 2**64 - 64):
+        for size in (0, 64, 1000):
+            yield case(MIXED, "grow", offset, size)
+
+
+# Answer 3 where the clump is unfinished itself (and not 7), or the next one, or one far
+# off, or where two FREE clumps touch, behind it or far off: before 4, 5 and 0.
+def unsettled_grown():
+    images = (
+        pool_of(clump(128, ACTIVATING), clump(256, FREE)),
+        pool_of(clump(128, FREEING), clump(256, FREE)),
+        pool_of(clump(128, RESERVED), clump(256, ACTIVATING)),
+        pool_of(clump(128, ACTIVE), clump(256, FREEING), clump(128, FREE)),
+        pool_of(clump(128, ACTIVE), clump(128, FREE), clump(256, FREE)),
+        pool_of(clump(128, RESERVED), clump(256, FREE), clump(128, ACTIVATING)),
+        pool_of(clump(128, ACTIVE), clump(256, FREE), clump(128, ACTIVE), clump(128, FREE),
+                clump(128, FREE)))
+    for image in images:
+        for size in (0, 64, 65, 1000):
+            yield case(image, "grow", 16448, size)
+
+
+# Lengths round the least one and fills that are no pool, with numbers that would get a
+# later answer too.
+def no_pool_grown():
+    for index, length in enumerate((0, 8, 16384, 16448, 16504, 16511, 16512, 16513, 16576,
+                                    32768, 65536)):
+        size = (1, 0, LARGEST)[index % 3]
+        yield case(shaped(length), "grow", 16448, size)
+        yield case(bytearray(length), "grow", 16448, size)
+    for fill in (1, 165, 255):
+        yield case(filled(16512, fill), "grow", 16448, 64, fill=fill)
+        yield case(filled(16512, fill), "grow", 0, 0, fuse=0, fill=fill)
+
+
+# The smallest pool, whose one clump has no next, and the smallest with a next one, which
+# is taken whole or not at all.
+def smallest_pools_grown():
+    for state in (RESERVED, ACTIVE):
+        for size in (1, 63, 64, 65, 128):
+            yield case(pool_of(clump(128, state)), "grow", 16448, size)
+        image = with_old_body(pool_of(clump(128, state), clump(128, FREE)), 16576, 64, OLD_BYTES)
+        for size in (64, 65, 128, 129, 192, 193):
+            yield case(image, "grow", 16448, size)
+
+
+# Records that grow by many units, in the usual pool and in the largest image here: by 64
+# too many, to the whole pool, to rests of 64, 128 and 192, and to about a third; with old
+# words on both sides of the border where they shall end.
+def many_units_grown():
+    for index, length in enumerate((32768, 65536)):
+        room = length - 16384
+        for need in (room + 64, room, room - 64, room - 128, room - 192, room // 192 * 64):
+            state = (RESERVED, ACTIVE)[(index + need // 64) % 2]
+            image = pool_of(clump(192, state, (4096, 1)), clump(room - 192, FREE))
+            end = 16384 + need
+            image = with_words(image, {at: at + 1 for at in range(end - 16, end + 72, 8)
+                                       if at < length})
+            yield from cut_everywhere(image, "grow", 16448, need - 64 - need // 64 % 64)
+
+
+# A list with each mixture of entries stays as it is, and no target is judged: in the
+# clump's own body, in the next header, which the grown body covers, and in the FREE body.
+def mixtures_grown():
+    for index, mixture in enumerate(MIXTURES):
+        entries = mixed_entries(mixture, (16576, 16640, 16896))
+        image = growing_pool((RESERVED, ACTIVE)[index % 2], 128, (192, 448)[index % 4 // 2],
+                             OLD_WORDS[index % 3], *entries)
+        yield case(image, "grow", GROWING, 200)
+
+
+# Targets on both sides of each border that the grow moves: the end of the old body; the
+# next header and body, which the grown body covers; its end, where the rest's header is,
+# and the rest's body; the last clump's.  Listed before the grow and judged behind it,
+# when the clump is activated or freed; then asked for behind it.
+def targets_grown_over():
+    for index, target in enumerate((16632, 16640, 16696, 16704, 16824, 16832, 16888, 16896,
+                                    17080, 17088, 17152)):
+        name, kind = (("activate", UNMARKED), ("free", MARKED))[index % 2]
+        listed = growing_pool(RESERVED, 128, 448, OLD_RECORD, entry(kind, target, 5))
+        grown = after(listed, "grow", GROWING, 200)
+        yield case(listed, name, GROWING)
+        yield case(grown, name, GROWING)
+        yield case(grown, "onfree", GROWING, target, 6)
+
+
+# What is asked behind a grow with a rest, before its last store and behind it, and behind
+# one without a rest: each request, and grow again, for less, for more and for too many.
+def grows_asked():
+    asked = (("reserve", (64,)), ("reserve_uncleared", (64,)),
+             ("onactive", (GROWING, 16640, 5)), ("onfree", (GROWING, 16824, 5)),
+             ("withdraw", (GROWING,)), ("activate", (GROWING,)), ("free", (GROWING,)),
+             ("check", ()), ("recover", ()), ("grow", (GROWING, 64)), ("grow", (GROWING, 257)),
+             ("grow", (GROWING, 700)))
+    for state, following, fuse in ((RESERVED, 512, 2), (RESERVED, 512, 3), (ACTIVE, 512, 3),
+                                   (ACTIVE, 256, 1)):
+        image = growing_pool(state, 128, following, OLD_HEADER, (4097, 1), last=RESERVED)
+        grown = after(image, "grow", GROWING, 200, fuse=fuse)
+        for name, numbers in asked:
+            yield case(grown, name, *numbers)
+
+
+# One record that grows again and again, by one unit, until nothing is left behind it; the
+# one before it and the one behind it have no room then either.
+def grows_behind_grows():
+    for state in (RESERVED, ACTIVE):
+        image = growing_pool(state, 128, 512, OLD_HEADER)
+        for size in range(65, 641, 64):
+            yield case(image, "grow", GROWING, size)
+            image = after(image, "grow", GROWING, size)
+        yield case(image, "grow", 16448, 65)
+        yield case(image, "grow", 17216, 65)
+
+
+# A live clump, most often one before a FREE clump, and a size from what it has to about
+# what the two have together.
+def some_growth(dice, image):
+    clumps = list(pool.walk(image))
+    live = [one for one in clumps if one.state in (RESERVED, ACTIVE)]
+    before_free = [one for one, behind in zip(clumps, clumps[1:])
+                   if one in live and behind.state == FREE]
+    one = dice.pick((not dice.one_in(6) and before_free) or live or clumps)
+    more = dice.pick((0, 1, 64, 65, 100, 128, 200, dice.between(1, 384)))
+    return pool.body_of(one), one.nbytes - 64 + more
+
+
+# Sound pools by chance with old words in their FREE bodies, and marks and gaps in every
+# second one's lists: one of their clumps grows; half of them with a small fuse.
+def grown_pools():
+    dice = Dice(2008)
+    for index in range(75):
+        some_pool = (sound_pool, marked_pool)[index % 2]
+        image = dirtied(dice, some_pool(dice, settled=index % 9 != 0))
+        fuse = dice.between(0, 3) if dice.one_in(2) else LARGEST
+        yield case(image, "grow", *some_growth(dice, image), fuse=fuse)
+
+
+# Valid pools with one word changed, mostly in a clump's header, asked to grow.
+def damage_grown():
+    dice = Dice(2009)
+    for index in range(36):
+        image = DAMAGED[index % len(DAMAGED)]
+        bodies = [pool.body_of(one) for one in pool.walk(image) if one.state != FREE]
+        at = damaged_offset(dice, image)
+        image = with_words(image, {at: damaged_word(dice, pool.word(image, at))})
+        yield case(image, "grow", *some_numbers(dice, image, "grow", bodies or (16448,)),
+                   fuse=some_fuse(dice))
+
+
+# Histories in which records grow, in pools where others are freed behind them.
+def histories_of_growth():
+    names = ("grow",) * 10 + ("reserve_uncleared",) * 4 + ("free",) * 4 + ("activate", "onfree")
+    for seed in (3041, 3042):
+        yield from history(Dice(seed), names, seed % 2, telling_fuses)
+
+
 FAMILIES = (
     lengths, no_pool_for_every_request, header_bits, total_sizes, padding,
     no_pool_before_faults, bad_sizes, last_64_bytes, bad_states, entry_patterns,
@@ -1499,7 +1775,11 @@ FAMILIES = (
     marked_targets_in_bodies, marked_pools, dirty_bodies_reserved,
     dirty_bodies_recovered, other_dirty_bodies_reserved, many_units_reserved,
     many_units_recovered, smallest_pool_reserved, cut_reserves_asked, old_records,
-    no_pool_reserved, dirty_pools, histories_of_both_forms)
+    no_pool_reserved, dirty_pools, histories_of_both_forms, sizes_grown,
+    growing_choices_cut, growing_choices_recovered, next_clumps, enough_with_any_fuse,
+    huge_sizes_grown, tests_of_grow_in_order, unsettled_grown, no_pool_grown,
+    smallest_pools_grown, many_units_grown, mixtures_grown, targets_grown_over,
+    grows_asked, grows_behind_grows, grown_pools, damage_grown, histories_of_growth)
 
 
 def all_cases():

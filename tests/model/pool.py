@@ -1,11 +1,11 @@
 """A model of the pool, written from document 01 and in its order, and from
-requests W1, W4 and W5 of document 02.
+requests W1, W4, W5 and W6 of document 02.
 
 An image is a bytearray.  A request takes the image, its numbers and a fuse,
 changes the image as far as the fuse lasts, and returns
 (answer, place, fault, stores, flush_from, flush_to).  The comment above a
-function quotes the rule that the function follows: document 01's, or W1's, W4's or
-W5's where it says so.  What W4 and W5 change, 01 no longer says: only the changed
+function quotes the rule that the function follows: document 01's, or W1's, W4's, W5's
+or W6's where it says so.  What W4 and W5 change, 01 no longer says: only the changed
 rule stands here.  Nothing here is quick or clever: it is meant to be held against
 the papers, line by line.
 """
@@ -476,11 +476,22 @@ def targets_cleared(clump):
     return [(entry.offset, 0) for entry in clump.entries]
 
 
+# "With a rest of 128 or more [it is split].  With a smaller rest the whole clump is
+# used".  W6, of grow: "splitting off a rest by reserve's rule".
+def is_split_off(rest):
+    return rest >= 128
+
+
+# "nbytes and state FREE of the rest's header".  Its list isn't stored: "The list of a
+# FREE clump and the value of an empty entry mean nothing."
+def rest_header(offset, nbytes):
+    return [(offset, nbytes), (offset + STATE_WORD, FREE)]
+
+
 # "With a rest of 128 or more: nbytes and state FREE of the rest's header; then
 # 0 to the three targets of the chosen clump; nbytes = need": its sizes are right.
 def split_stores(clump, need):
-    rest = clump.offset + need
-    return ([(rest, clump.nbytes - need), (rest + STATE_WORD, FREE)]
+    return (rest_header(clump.offset + need, clump.nbytes - need)
             + targets_cleared(clump) + [(clump.offset, need)])
 
 
@@ -495,7 +506,7 @@ def body_cleared(clump):
 # body, upward, after the sizes are right and before the state becomes RESERVED.";
 # "A second form of the request keeps the old rule": 7 stores or 4.
 def reserve_stores(clump, need, clears):
-    if clump.nbytes - need >= 128:
+    if is_split_off(clump.nbytes - need):
         sizing, taken = split_stores(clump, need), clump._replace(nbytes=need)
     else:
         sizing, taken = targets_cleared(clump), clump
@@ -635,6 +646,53 @@ def free(image, offset, fuse=LARGEST):
     return carry_out(image, stores + join_stores(clumps, clump), offset, fuse)
 
 
+# W6: "If the present body is enough": it has the bytes of the new body size.
+def has_enough(clump, size):
+    return clump.nbytes - HEADER_BYTES >= size
+
+
+# W6: "if the next clump is FREE and both together reach the need, take it [..].  Else
+# answer 5, exactly then."  The last clump has no next one.
+def nbytes_with_next(clumps, clump, need):
+    following = clumps[clumps.index(clump) + 1:]
+    if not following or following[0].state != FREE:
+        raise Refused(5)
+    both = clump.nbytes + following[0].nbytes
+    if both < need:
+        raise Refused(5)
+    return both
+
+
+# W6: "take it, splitting off a rest by reserve's rule: the rest's header first, then one
+# store of the grown nbytes."  Without a rest that one store is of both together.
+def taking_stores(clump, both, need):
+    if is_split_off(both - need):
+        return rest_header(clump.offset + need, both - need) + [(clump.offset, need)]
+    return [(clump.offset, both)]
+
+
+# W6: "If the present body is enough, done with no store.  Otherwise [take the next
+# clump]."  "The old body bytes stay; the added ones aren't cleared": no store is to
+# either.  The need is reserve's, "in whole numbers, never wrapped".
+def grow_stores(clumps, clump, size):
+    if has_enough(clump, size):
+        return []
+    need = need_of(size)
+    return taking_stores(clump, nbytes_with_next(clumps, clump, need), need)
+
+
+# W6: "New request: a live clump (RESERVED or ACTIVE), a new body size."; "Size 0 is 4;
+# here 6 and 7 are tested before 5."
+@request
+def grow(image, offset, size, fuse=LARGEST):
+    clumps = settled_clumps(image)
+    if size == 0:
+        raise Refused(4)
+    clump = clump_with_body(clumps, offset)
+    demand_state(clump, RESERVED, ACTIVE)
+    return carry_out(image, grow_stores(clumps, clump, size), offset, fuse)
+
+
 # "finish the ACTIVATING clump (assign, empty the list, ACTIVE) or the FREEING
 # one (assign, FREE)"
 def finishing_stores(clumps):
@@ -715,11 +773,15 @@ UNDONE_BY_A_CUT = ("reserve", "reserve_uncleared", "onactive", "onfree", "withdr
 # finished; 0 if it never does.  For a request that the image accepts, not create.
 # "It equals that of recovering the finished image if one or more stores of activate
 # or free were made": the first.  W4, of a RESERVED clump with a marked entry: "Cut
-# before the FREEING store, it reads as not asked": that store.
+# before the FREEING store, it reads as not asked": that store.  W6, of grow: "Cut before
+# the nbytes store, it reads as not asked": that store, the last one.
 def turning_store(image, name, numbers):
     if name in UNDONE_BY_A_CUT:
         return 0
-    clump = clump_with_body(settled_clumps(image), numbers[0])
+    clumps = settled_clumps(image)
+    clump = clump_with_body(clumps, numbers[0])
+    if name == "grow":
+        return len(grow_stores(clumps, clump, numbers[1]))
     if name == "activate" or is_dropped_by_free(clump):
         return 1
     return len(stores_before_freeing(clump)) + 1
@@ -734,16 +796,18 @@ def reads_as_finished(image, name, numbers, stores):
 
 
 # "create, reserve, onactive, onfree, withdraw, activate, free, check, recover":
-# the nine requests by name, and W5's "second form", with how many numbers each takes.
+# the nine requests by name, W5's "second form" and W6's "new request", with how many
+# numbers each takes.
 NUMBERS_TAKEN = {
     "create": 0, "reserve": 1, "onactive": 3, "onfree": 3, "withdraw": 1,
     "activate": 1, "free": 1, "check": 0, "recover": 0, "reserve_uncleared": 1,
+    "grow": 2,
 }
 
 CARRIED_OUT_BY = {
     "create": create, "reserve": reserve, "onactive": onactive, "onfree": onfree,
     "withdraw": withdraw, "activate": activate, "free": free, "recover": recover,
-    "reserve_uncleared": reserve_uncleared,
+    "reserve_uncleared": reserve_uncleared, "grow": grow,
 }
 
 

@@ -12,9 +12,9 @@ LONGEST_LINE = 200
 
 # "Each input line is a request name (not create or check) and decimal numbers:
 # size; or offset; or offset, target, value; recover takes none."  W5 of document 02
-# adds a second form of reserve.
+# adds a second form of reserve, and W6 adds grow: offset, size.
 REQUESTS = ("reserve", "reserve_uncleared", "onactive", "onfree", "withdraw", "activate",
-            "free", "recover")
+            "free", "grow", "recover")
 
 NUMBERS_WANTED = {name.encode(): pool.NUMBERS_TAKEN[name] for name in REQUESTS}
 NUMBERS_WANTED[b"fuse"] = 1

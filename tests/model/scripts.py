@@ -299,6 +299,125 @@ SCRIPTS["bad-lines-reserve-uncleared"] = raw(
     b"walk")
 
 # ---------------------------------------------------------------------------
+# Grow a record where it stands (W6 of document 02)
+# ---------------------------------------------------------------------------
+
+# A record has enough already, and nothing is stored; it grows by a unit and by many, 3
+# stores each, RESERVED and ACTIVE.  Asked for less, it doesn't shrink.
+SCRIPTS["grow"] = lines(
+    "reserve 64", "grow 16448 64", "grow 16448 1", "walk", "grow 16448 65", "walk",
+    "grow 16448 128", "grow 16448 100", "grow 16448 1000", "walk", "activate 16448",
+    "grow 16448 1024", "grow 16448 1025", "walk", "grow 16448 64", "walk")
+
+# A burner's log, ACTIVE: its activation sets its first word and its last, and its freeing
+# will set 4096.  It grows three times.  The second time the power fails before the size
+# is stored, with the rest's header written: once recovered it is as it was, and it grows
+# again.  The third time the power fails twice, before the first store and behind it.  Its
+# body stays where it is with its old words, and its list with it: the free makes FREEING,
+# one assignment, FREE and the join.
+SCRIPTS["grow-three-times"] = lines(
+    "reserve 64", "onfree 16448 4096 5", "onactive 16448 16448 7", "onactive 16448 16504 9",
+    "activate 16448", "walk", "grow 16448 100", "walk",
+    "fuse 2", "grow 16448 500", "walk", "recover", "walk", "grow 16448 500", "walk",
+    "fuse 0", "grow 16448 2000", "fuse 1", "grow 16448 2000", "walk", "recover", "walk",
+    "grow 16448 2000", "walk", "free 16448", "walk")
+
+# The record behind it had a word set (16584), and was freed: the grown body covers it,
+# header and all, and isn't cleared.  No line prints that word: the model's tests look.
+SCRIPTS["grow-over-old-bytes"] = lines(
+    "reserve 64", "reserve 64", "onactive 16576 16584 77", "activate 16576", "free 16576",
+    "activate 16448", "grow 16448 200", "walk")
+
+# A hole of 256 behind a record of 128: one byte too many; all of it, with no rest or one
+# of 64, one store; rests of 128 and of 192 are split off, 3 stores; enough already.
+SCRIPTS["grow-rests"] = lines(*(
+    line for size in (321, 320, 257, 256, 193, 192, 129, 128, 65, 64) for line in
+    ("reserve 64", "reserve 192", "reserve 64", "free 16576", "grow 16448 %d" % size, "walk",
+     "recover")))
+
+# The same at the end of the pool, and what is left to be reserved.
+SCRIPTS["grow-to-the-end-of-the-pool"] = lines(*(
+    line for size in (16321, 16320, 16256, 16193, 16192, 16128) for line in
+    ("reserve 64", "activate 16448", "grow 16448 %d" % size, "walk",
+     "reserve_uncleared 64", "free 16448", "recover", "walk")))
+
+# Each refusal, where others would hold too: 4 before 6 and 7; 6 and 7 before 5; 5.
+SCRIPTS["grow-refused"] = lines(
+    "grow 16448 0", "grow 16448 64", "grow 16448 %d" % LARGEST, "grow 16449 0", "grow 0 0",
+    "grow 16384 64", "grow 16449 64", "grow 16456 64", "grow 16512 %d" % LARGEST, "grow 0 64",
+    "grow 64 64", "grow 4096 1", "grow 32768 64", "grow %d 1" % LARGEST,
+    "grow %d 16321" % (LARGEST - 63), "grow 16385 16321",
+    "reserve 64", "grow 16448 0", "grow 16448 16321", "grow 16576 1", "grow 16576 16321",
+    "grow 16512 64", "fuse 0", "grow 16448 0", "fuse 0", "grow 16448 64", "grow 16448 65",
+    "walk")
+
+# Answer 5 while the next clump is RESERVED, or ACTIVE, or FREE and 64 too small; a FREE
+# clump before the record isn't taken.  The last clump of the pool has no next one.
+SCRIPTS["grow-and-the-next-clump"] = lines(
+    "reserve 64", "reserve 64", "reserve 64", "activate 16704", "grow 16448 65",
+    "activate 16576", "grow 16448 65", "free 16576", "grow 16448 193", "grow 16448 192", "walk",
+    "free 16448", "grow 16704 16065", "grow 16704 16064", "walk", "grow 16704 16065",
+    "free 16704", "walk", "reserve_uncleared 16320", "grow 16448 16320", "grow 16448 16321")
+
+# An unfinished pool, and one in which two FREE clumps touch, grant no grow: 3 comes first.
+SCRIPTS["grow-in-an-unsettled-pool"] = lines(
+    "reserve 64", "reserve 64", "fuse 1", "activate 16448", "grow 16448 1", "grow 16448 65",
+    "grow 16576 65", "grow 16576 0", "grow 1 1", "recover", "grow 16448 65", "walk",
+    "fuse 1", "free 16448", "grow 16448 1", "grow 16448 0", "recover", "reserve 64",
+    "reserve 64", "fuse 1", "free 16576", "walk", "grow 16448 65", "grow 16448 64",
+    "recover", "grow 16448 65")
+
+# A record of which the free place behind it moves when it grows: reserve finds the first
+# that fits, in what is left of the hole, and then behind.
+SCRIPTS["grow-and-first-fit"] = lines(
+    "reserve 64", "reserve 448", "reserve 64", "activate 16448", "activate 17088", "free 16576",
+    "walk", "grow 16448 300", "walk", "reserve 193", "reserve 192", "walk", "grow 16448 321",
+    "free 16832", "grow 16448 321", "walk", "reserve 64", "reserve 64", "walk")
+
+# Records that grew are freed, and joined with what is FREE beside them: with the rest
+# behind, with the record before, with both.
+SCRIPTS["grow-and-free"] = lines(
+    "reserve 64", "reserve 64", "activate 16448", "activate 16576", "grow 16576 500", "walk",
+    "free 16576", "walk", "grow 16448 1000", "walk", "free 16448", "walk",
+    "reserve 64", "reserve 64", "free 16448", "grow 16576 1000", "walk", "grow 16576 16192",
+    "walk", "free 16576", "walk")
+
+# Targets behind a record: in a header (16640) and in a FREE body (16704, 16824) they aren't
+# valid; once it has grown over them they are, and 16832 is the rest's header.
+SCRIPTS["grow-over-targets"] = lines(
+    "reserve 64", "reserve 64", "onactive 16448 16640 1", "onactive 16448 16704 2",
+    "onactive 16448 16824 3", "grow 16576 256", "walk", "onactive 16448 16640 1",
+    "onactive 16448 16704 2", "onactive 16448 16832 3", "onactive 16448 16824 3",
+    "activate 16448", "onfree 16448 16824 4", "free 16576", "free 16448", "walk")
+
+# Sizes whose rounding or header would wrap: no room, whatever is behind the record.
+SCRIPTS["grow-by-the-largest-number"] = lines(
+    "reserve 64", *("grow 16448 %d" % size for size in (
+        LARGEST, LARGEST - 62, LARGEST - 63, LARGEST - 64, LARGEST - 126, LARGEST - 127,
+        LARGEST - 128, LARGEST - 16383, LARGEST - 16447, 2**63, 2**63 - 1, 2**32, 2**32 + 65)),
+    "grow %d %d" % (LARGEST, LARGEST), "grow %d 65" % (2**32 + 16448), "activate 16448",
+    "grow 16448 %d" % LARGEST, "fuse %d" % LARGEST, "grow 16448 65", "walk")
+
+# Lines that aren't requests, beside its name; a number missing, one too many, above 64
+# bits, with a sign, with something behind it.
+SCRIPTS["bad-lines-grow"] = raw(
+    b"reserve 64", b"grow", b"grow ", b"grow 16448", b"grow 16448 ", b"grow  16448 65",
+    b"grow 16448  65", b" grow 16448 65", b"grow 16448 65 ", b"grow 16448 65 0",
+    b"grow 16448 65 4096 1", b"grow\t16448 65", b"grow 16448\t65", b"grow 16448 65\r",
+    b"grow 16448 65\0", b"grow 16448,65", b"grow 16448 65x", b"grow 16448 0x41",
+    b"grow 0x4040 65", b"grow 16448 6e1", b"grow +16448 65", b"grow 16448 +65",
+    b"grow -16448 65", b"grow 16448 -65", b"grow 16448 -0", b"grow x 65", b"grow 16448 x",
+    b"grow 16448 18446744073709551616", b"grow 18446744073709551616 65",
+    b"grow 18446744073709568064 65", b"grow 16448 18446744073709551681",
+    b"grow 16448 99999999999999999999", b"Grow 16448 65", b"GROW 16448 65", b"gro 16448 65",
+    b"grows 16448 65", b"grown 16448 65", b"grow16448 65", b"grow_ 16448 65", b"g 16448 65",
+    b"16448 65 grow", b"grow 16448 walk", b"grow walk 65", b"walk", b"fuse 1", b"grow 16448",
+    b"grow 16448 65 65", b"grow 16448 65", b"walk", b"grow 016448 00065",
+    b"grow 16448 " + b"129".zfill(189), b"grow 16448 " + b"193".zfill(190),
+    b"grow " + b"16448".zfill(191) + b" 193", b"grow " + b"16448".zfill(192) + b" 257",
+    b"grow 16448 " + b"18446744073709551615".zfill(189), b"walk")
+
+# ---------------------------------------------------------------------------
 # Fuses
 # ---------------------------------------------------------------------------
 
@@ -498,6 +617,17 @@ SCRIPTS["recovery-of-a-whole-reserve-at-every-cut"] = lines(
         line for fuse in range(14) for line in
         ("fuse %d" % fuse, "reserve 64", "walk", "recover", "fuse %d" % fuse, "reserve 1",
          "reserve_uncleared 1", "recover", "walk")))
+
+# Grow into a hole of 256, with a rest and with none, ACTIVE and RESERVED, at every cut,
+# uncut and with a store to spare.  With a fuse of 0 grow says at once which it was: 0 if
+# the record has enough, else 11.  Recovery drops what is RESERVED; the free carries out
+# the list, which is the old one.
+SCRIPTS["recovery-of-a-grow-at-every-cut"] = lines(*(
+    line for size in (65, 320) for name in ("activate", "withdraw")
+    for fuse in range(5 if size == 65 else 3) for line in
+    ("reserve 64", "onfree 16448 4096 1", "onfree 16448 4104 2", "%s 16448" % name,
+     "reserve 192", "reserve 64", "free 16576", "fuse %d" % fuse, "grow 16448 %d" % size, "walk",
+     "fuse 0", "grow 16448 65", "recover", "walk", "free 16448", "walk")))
 
 SCRIPTS["recovery-of-reserved-clumps"] = lines(
     "reserve 64", "reserve 128", "reserve 192", "activate 16576", "reserve 256", "walk",

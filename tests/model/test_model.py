@@ -1,4 +1,4 @@
-"""Holds the model against document 01 and requests W1, W4 and W5 of document 02:
+"""Holds the model against document 01 and requests W1, W4, W5 and W6 of document 02:
 their numbers, worked by hand, and their rules.
 
     python3 -m unittest discover -s tests/model
@@ -13,9 +13,9 @@ import pool
 import program
 from build import (
     Dice, EMPTY, FORMS, MARKED, MIXED, MIXED_ACTIVE, MIXED_BARE_ACTIVE, MIXED_FREE,
-    MIXED_RESERVED, MIXTURES, OLD_BYTES, OLD_RECORD, UNMARKED, after, case, clump,
-    dirty_pool, dusty, filled, fresh, mixed_entries, mixture_pool, pool_of, stores_of,
-    telling_fuses, with_old_body, with_words)
+    MIXED_RESERVED, MIXTURES, OLD_BYTES, OLD_RECORD, OLD_WORDS, UNMARKED, after, case,
+    clump, dirty_pool, dusty, filled, fresh, growing_pool, mixed_entries, mixture_pool,
+    pool_of, stores_of, telling_fuses, with_old_body, with_words)
 from pool import FREE, RESERVED, ACTIVATING, ACTIVE, FREEING, LARGEST
 from scripts import SCRIPTS
 
@@ -454,6 +454,25 @@ class BytesToFlush(unittest.TestCase):
                                  (16520, 16712), (8184, 16712), (8184, 16712),
                                  (8184, 16712))
 
+    # The rest's header at 16576, then the nbytes at 16384, lower down.
+    def test_grow_with_a_rest(self):
+        image = pool_of(clump(128, ACTIVE), clump(512, FREE))
+        self.assert_at_every_cut(image, "grow", (16448, 65), (0, 0), (16576, 16584),
+                                 (16576, 16592), (16384, 16592))
+
+    # The nbytes at 16512 alone, however many bytes were added.
+    def test_grow_without_a_rest(self):
+        image = pool_of(clump(128, ACTIVE), clump(128, RESERVED), clump(1024, FREE))
+        for size in (1024, 1025, 1088):
+            self.assert_at_every_cut(image, "grow", (16576, size), (0, 0), (16512, 16520))
+
+    # "Both are 0 when nothing was stored."  Enough is enough with any fuse.
+    def test_grow_with_nothing_to_do(self):
+        image = pool_of(clump(128, ACTIVE), clump(1024, FREE))
+        for fuse in (0, 1, LARGEST):
+            self.assertEqual(pool.grow(bytearray(image), 16448, 64, fuse=fuse),
+                             (0, 16448, 0, 0, 0, 0))
+
     # The assignment to 4096; the states at 16520, 16392 and 16776; the nbytes of
     # the two runs at 16384 and 16768.
     def test_recover(self):
@@ -497,7 +516,14 @@ class BytesToFlush(unittest.TestCase):
             (7, 0, 0, MIXED, "free", (MIXED_FREE,)),
             (8, 0, 0, MIXED, "onactive", (MIXED_RESERVED, 4096, 1)),
             (9, 0, 0, MIXED, "withdraw", (MIXED_BARE_ACTIVE,)),
-            (10, 0, 0, MIXED, "onfree", (MIXED_ACTIVE, 8192, 1)))
+            (10, 0, 0, MIXED, "onfree", (MIXED_ACTIVE, 8192, 1)),
+            (1, 0, 0, bytearray(16512), "grow", (16448, 1)),
+            (2, 16640, 2, with_words(MIXED, {16648: 5}), "grow", (MIXED_ACTIVE, 200)),
+            (3, 0, 0, with_words(MIXED, {16392: FREEING}), "grow", (MIXED_ACTIVE, 200)),
+            (4, 0, 0, MIXED, "grow", (MIXED_ACTIVE, 0)),
+            (5, 0, 0, MIXED, "grow", (MIXED_ACTIVE, 385)),
+            (6, 0, 0, MIXED, "grow", (16384, 200)),
+            (7, 0, 0, MIXED, "grow", (MIXED_FREE, 200)))
         for answer, place, fault, image, name, numbers in refused:
             for fuse in (0, 1, LARGEST):
                 self.assertEqual(pool.ask(bytearray(image), name, numbers, fuse),
@@ -532,6 +558,13 @@ class BytesToFlush(unittest.TestCase):
     def test_kept_by_onactive(self):
         image = pool_of(clump(128, RESERVED, (0, 999)))
         self.assert_kept(image, "onactive", (16448, 4096, 999), 1, (16408, 16416))
+
+    # The rest's header that stands there already.
+    def test_kept_by_grow(self):
+        image = pool_of(clump(128, ACTIVE), clump(512, FREE))
+        image = with_words(image, {16576: 448})
+        for fuse, flushed in ((1, (16576, 16584)), (2, (16576, 16592))):
+            self.assert_kept(image, "grow", (16448, 65), fuse, flushed)
 
     # A target that holds the value already, assigned again by recovery.
     def test_kept_by_recover(self):
@@ -824,7 +857,7 @@ def mixtures_asked():
                                       ("onactive", (16576, 4096, 1)),
                                       ("onfree", (16576, 16576, 1)), ("withdraw", (16576,)),
                                       ("activate", (16576,)), ("free", (16576,)),
-                                      ("recover", ())):
+                                      ("recover", ()), ("grow", (16576, 65))):
                     yield image, name, numbers
             for state in (ACTIVATING, FREEING):
                 yield dusty(mixture_pool(state, mixture, *neighbours), 22), "recover", ()
@@ -854,6 +887,8 @@ class CutsOfMixtures(unittest.TestCase):
         # Where the two readings differ, both are met.
         for name in ("activate", "free"):
             self.assertLessEqual({(name, False), (name, True)}, tried)
+        # Grow's one store is its turn: each cut of it is undone.
+        self.assertEqual({finished for name, finished in tried if name == "grow"}, {False})
 
     # A recovery that is cut, and recovered, reads as one that wasn't; a second one
     # makes no store.
@@ -1077,6 +1112,365 @@ class BodiesComeCleared(WordByWord):
                                 (b"3 0 0\n", [0, 0, 3]), (b"0 16448 15\n", [0, 0, 0])])
 
 
+# ---------------------------------------------------------------------------
+# W6: "Grow a record where it stands."
+# ---------------------------------------------------------------------------
+
+# What a grow finds, in the stored words: enough, or room behind the clump, or why there is
+# none.  (W11 names the reasons: "whether the next clump was not FREE, missing or too
+# small".)
+def room_behind(image, place, size):
+    nbytes, end = pool.word(image, place - 64), place - 64 + pool.word(image, place - 64)
+    need = 64 + 64 * -(-size // 64)
+    if size <= nbytes - 64:
+        return "enough"
+    if end == len(image):
+        return "missing"
+    if pool.word(image, end + 8) != FREE:
+        return "not FREE"
+    return "too small" if nbytes + pool.word(image, end) < need else "room"
+
+
+# Its stores, where there is room: with a rest of 128 or more three, else one.
+def stores_of_growth(image, place, size):
+    at, need = place - 64, 64 + 64 * -(-size // 64)
+    both = pool.word(image, at) + pool.word(image, at + pool.word(image, at))
+    if both - need < 128:
+        return [(at, both)]
+    return [(at + need, both - need), (at + need + 8, FREE), (at, need)]
+
+
+# Sound, settled pools by chance, every second one with marks and gaps in its lists, in
+# which every FREE body has old words; and one of their live clumps, with a size.
+# (image, the offset of its body, size)
+def growths(seed, wanted):
+    dice = Dice(seed)
+    while wanted:
+        some_pool = (cases.sound_pool, cases.marked_pool)[wanted % 2]
+        image = with_old_bodies(some_pool(dice, settled=True), OLD_WORDS[wanted % 3])
+        place, size = cases.some_growth(dice, image)
+        if pool.word(image, place - 56) != FREE:
+            wanted -= 1
+            yield image, place, size
+
+
+# Those that find room.
+def growths_with_room(seed, wanted):
+    return (one for one in growths(seed, wanted) if room_behind(*one) == "room")
+
+
+class GrowARecord(WordByWord):
+
+    def assert_answer(self, answer, image, offset, size):
+        asked = bytearray(image)
+        self.assertEqual(pool.grow(asked, offset, size)[:4], (answer, 0, 0, 0))
+        self.assertEqual(asked, image)
+
+    # "If the present body is enough, done with no store": with any fuse, whatever stands
+    # behind the clump.
+    def test_enough(self):
+        for state in (RESERVED, ACTIVE):
+            for behind in ((), (clump(1024, FREE),), (clump(128, ACTIVE),)):
+                for nbytes in (128, 192, 1088):
+                    image = pool_of(clump(nbytes, state, (4096, 1)), *behind)
+                    for size in (1, 63, 64, nbytes - 65, nbytes - 64):
+                        for fuse in (0, 1, LARGEST):
+                            asked = bytearray(image)
+                            self.assertEqual(pool.grow(asked, 16448, size, fuse=fuse),
+                                             (0, 16448, 0, 0, 0, 0))
+                            self.assertEqual(asked, image)
+
+    # A body has the size's bytes just if the clump has its need: a clump's nbytes is
+    # divisible by 64.
+    def test_enough_is_the_need(self):
+        for nbytes in range(128, 1088, 64):
+            image = pool_of(clump(nbytes, ACTIVE))
+            for size in (64 * units + more for units in range(1, 18) for more in (-1, 0, 1)):
+                enough = nbytes >= pool.need_of(size)
+                self.assertEqual(pool.grow(image, 16448, size).answer, 0 if enough else 5)
+
+    # 01's case A: size 1 needs 128, 64 needs 128, 65 needs 192, 1000 needs 1088.
+    def test_a(self):
+        for size, need in ((1, 128), (64, 128), (65, 192), (1000, 1088)):
+            image = pool_of(clump(128, ACTIVE), clump(16256, FREE))
+            self.assertEqual(pool.grow(image, 16448, size)[:4],
+                             (0, 16448, 0, 3 if need > 128 else 0))
+            self.assertEqual(tiles(image), [(need, ACTIVE), (16384 - need, FREE)])
+
+    # 01's cases B to F, with a need of 1088 for 1000 bytes that 128 and the FREE clump
+    # reach together, or don't: split, to a rest of 128 too; all taken; answer 5.
+    def test_b_to_f(self):
+        for following, expected in ((2048, [(1088, ACTIVE), (1088, FREE)]),
+                                    (1088, [(1088, ACTIVE), (128, FREE)]),
+                                    (1024, [(1152, ACTIVE)]), (960, [(1088, ACTIVE)])):
+            image = pool_of(clump(256, ACTIVE), clump(128, ACTIVE), clump(following, FREE),
+                            clump(256, ACTIVE))
+            self.assertEqual(pool.grow(image, 16704, 1000)[:4],
+                             (0, 16704, 0, 3 if len(expected) == 2 else 1))
+            self.assertEqual(tiles(image), [(256, ACTIVE), *expected, (256, ACTIVE)])
+        self.assert_answer(5, pool_of(clump(128, ACTIVE), clump(896, FREE)), 16448, 1000)
+
+    # 01's case G: of 16384 together, size 16320 fits, 16321 doesn't; 18446744073709551615
+    # gets 5, and so does every size whose need would wrap.
+    def test_g(self):
+        for state in (RESERVED, ACTIVE):
+            image = pool_of(clump(128, state), clump(16256, FREE))
+            self.assertEqual(tiles(after(image, "grow", 16448, 16320)), [(16384, state)])
+            for size in (16321, 2**32, 2**32 + 1, 2**63, 2**64 - 16384, 2**64 - 129,
+                         2**64 - 128, 2**64 - 127, 2**64 - 65, 2**64 - 64, 2**64 - 63,
+                         18446744073709551615):
+                self.assert_answer(5, image, 16448, size)
+
+    # "the rest's header first, then one store of the grown nbytes": of a clump of 128 at
+    # 16512 and 512 FREE bytes with old words.  193 to 256 bytes need 320, so that 320 are
+    # left at 16832.  The rest's nbytes and its state FREE, as reserve stores them; no list.
+    def test_order_with_a_rest(self):
+        for state in (RESERVED, ACTIVE):
+            for old in OLD_WORDS:
+                image = growing_pool(state, 128, 512, old, (4096, 1), (4105, 2), (16576, 3))
+                for size in (193, 200, 256):
+                    self.assert_order(image, "grow", (16576, size),
+                                      [(16832, 320), (16840, 0), (16512, 320)])
+
+    # By one unit: the rest's header at 16704, just behind the old next one.
+    def test_order_by_one_unit(self):
+        image = growing_pool(ACTIVE, 128, 512, OLD_BYTES)
+        self.assert_order(image, "grow", (16576, 65), [(16704, 448), (16712, 0), (16512, 192)])
+
+    # "With a smaller rest the whole clump is used": one store, of both together.
+    def test_order_without_a_rest(self):
+        for state in (RESERVED, ACTIVE):
+            for following, both in ((192, 320), (256, 384)):
+                image = growing_pool(state, 128, following, OLD_RECORD, (4096, 1))
+                for size in (193, 256):
+                    self.assert_order(image, "grow", (16576, size), [(16512, both)])
+
+    # "by reserve's rule": a reserve of the same size, in one FREE clump as large as the two
+    # are together, splits off a rest just where grow does, and its first two stores make
+    # the same header of it.
+    def test_the_rest_is_reserve_s(self):
+        for following in range(192, 704, 64):
+            growing = growing_pool(ACTIVE, 128, following, OLD_RECORD)
+            one_free = with_words(growing, {16512: 128 + following, 16520: FREE})
+            for size in range(65, following, 64):
+                stores = (stores_of(growing, "grow", (16576, size)),
+                          stores_of(one_free, "reserve_uncleared", (size,)))
+                self.assertIn(stores, ((3, 7), (1, 4)))
+                if stores == (3, 7):
+                    grown = after(growing, "grow", 16576, size, fuse=2)
+                    split = after(one_free, "reserve_uncleared", size, fuse=2)
+                    self.assertEqual(changed_words(grown, split), [16512, 16520])
+                    self.assertNotEqual(grown, growing)
+
+    # "Else answer 5, exactly then": the next clump isn't FREE, is missing, is too small by
+    # 64.  FREE clumps elsewhere don't count.
+    def test_no_room(self):
+        for state in (RESERVED, ACTIVE):
+            for behind in ((), (clump(512, RESERVED),), (clump(512, ACTIVE),),
+                           (clump(128, FREE),), (clump(128, FREE), clump(512, ACTIVE)),
+                           (clump(512, ACTIVE), clump(512, FREE))):
+                image = pool_of(clump(512, FREE), clump(192, state), *behind)
+                self.assert_answer(5, image, 16960, 257)
+                self.assertEqual(pool.grow(bytearray(image), 16960, 128)[:2], (0, 16960))
+            image = pool_of(clump(512, FREE), clump(192, state), clump(192, FREE))
+            self.assertEqual(pool.grow(image, 16960, 257)[:4], (0, 16960, 0, 1))
+
+    # "a live clump (RESERVED or ACTIVE)": 7 for a FREE one.  An ACTIVATING or FREEING one
+    # makes the pool unfinished, which is 3.
+    def test_states(self):
+        for state, answer in ((FREE, 7), (ACTIVATING, 3), (FREEING, 3)):
+            image = pool_of(clump(192, state), clump(128, ACTIVE), clump(256, FREE))
+            for size in (1, 128, 129, LARGEST):
+                self.assert_answer(answer, image, 16448, size)
+        for state in (ACTIVATING, FREEING):
+            image = pool_of(clump(128, ACTIVE), clump(512, state), clump(512, FREE))
+            for size in (1, 65, LARGEST):
+                self.assert_answer(3, image, 16448, size)
+
+    # "Size 0 is 4; here 6 and 7 are tested before 5."
+    def test_order_of_the_tests(self):
+        settled = pool_of(clump(128, ACTIVE), clump(128, RESERVED), clump(128, FREE))
+        touching = pool_of(clump(128, ACTIVE), clump(128, FREE), clump(128, FREE))
+        bad = with_words(touching, {16520: 5})
+        for offset in (0, 16384, 16447, 16448, 16456, 16512, 16576, 16704, 16768, LARGEST):
+            for size in (0, 64, 1000, LARGEST):
+                self.assert_answer(1, with_words(bad, {12312: 1}), offset, size)
+                self.assertEqual(pool.grow(bytearray(bad), offset, size), (2, 16512, 2, 0, 0, 0))
+                self.assert_answer(3, touching, offset, size)
+            self.assert_answer(4, settled, offset, 0)
+            for size in (1, 65, 1000, LARGEST):
+                if offset not in (16448, 16576, 16704):
+                    self.assert_answer(6, settled, offset, size)
+        for size in (1, 65, 1000, LARGEST):
+            self.assert_answer(7, settled, 16704, size)
+        self.assert_answer(5, settled, 16448, 65)
+        self.assert_answer(5, settled, 16576, 193)
+
+    # "Else answer 5, exactly then", of many pools; and the stores of those that find room,
+    # at every cut: no byte beside the words that are stored.
+    def test_many(self):
+        found = set()
+        for image, place, size in growths(51, 600):
+            room = room_behind(image, place, size)
+            stores = stores_of_growth(image, place, size) if room == "room" else []
+            found.add((pool.word(image, place - 56), room, len(stores)))
+            for fuse in (*range(len(stores)), LARGEST):
+                asked = bytearray(image)
+                given = pool.grow(asked, place, size, fuse=fuse)
+                answer = 0 if room in ("enough", "room") else 5
+                if fuse < len(stores):
+                    self.assertEqual(given[:4], (11, 0, 0, fuse))
+                else:
+                    self.assertEqual(given[:4], (answer, 0 if answer else place, 0, len(stores)))
+                self.assertEqual(asked, with_words(image, dict(stores[:fuse])))
+        self.assertEqual(found, {
+            (state, room, count) for state in (RESERVED, ACTIVE) for room, count in
+            (("enough", 0), ("missing", 0), ("not FREE", 0), ("too small", 0), ("room", 1),
+             ("room", 3))})
+
+    # "The old body bytes stay; the added ones aren't cleared": the added ones are those of
+    # the next clump, with its header, as they were.  The list stays too, and the clumps
+    # beside the two.
+    def test_bytes_stay(self):
+        rests = set()
+        for image, place, size in growths_with_room(52, 300):
+            old, state = body_and_state(image, place)
+            grown = after(image, "grow", place, size)
+            body, state_behind = body_and_state(grown, place)
+            self.assertEqual(state_behind, state)
+            self.assertGreaterEqual(len(body), size)
+            self.assertLess(len(body), size + 128)
+            self.assertEqual(body, image[place:place + len(body)])
+            self.assertEqual(body[:len(old)], old)
+            self.assertTrue(any(body[len(old):]))
+            self.assertEqual(grown[place - 56:place], image[place - 56:place])
+            before, behind = list(pool.walk(image)), list(pool.walk(grown))
+            at = [one.offset for one in before].index(place - 64)
+            rest = len(behind) - len(before) + 1
+            self.assertEqual(behind[:at], before[:at])
+            self.assertEqual(behind[at + 1 + rest:], before[at + 2:])
+            self.assertTrue(rest == 0 or behind[at + 1].state == FREE)
+            rests.add(rest)
+        self.assertEqual(rests, {0, 1})
+
+    # Behind every cut, and behind the recovery of every cut, the clumps tile the pool, and
+    # no two FREE ones touch: until the last store the rest's header lies in a FREE body.
+    def test_the_clumps_tile(self):
+        for image, place, size in growths_with_room(53, 200):
+            for fuse in range(stores_of(image, "grow", (place, size)) + 1):
+                cut = after(image, "grow", place, size, fuse=fuse)
+                for behind in (cut, recovered(cut)):
+                    clumps = list(pool.walk(behind))
+                    self.assertEqual(sum(one.nbytes for one in clumps), len(image) - 16384)
+                    self.assertEqual(pool.check(behind)[0].answer, 0)
+                    self.assertEqual(pool.reserve(behind, 0).answer, 4)
+
+    # "Cut before the nbytes store, it reads as not asked", recovered or not; behind that
+    # store it reads as done.  The two differ where the clump is ACTIVE; a RESERVED one is
+    # dropped either way.
+    def test_reads_as_not_asked(self):
+        for image, place, size in growths_with_room(54, 250):
+            whole = after(image, "grow", place, size)
+            length = stores_of(image, "grow", (place, size))
+            undone, done = pool.reading(recovered(image)), pool.reading(recovered(whole))
+            self.assertEqual(undone != done, pool.word(image, place - 56) == ACTIVE)
+            for fuse in range(length):
+                cut = after(image, "grow", place, size, fuse=fuse)
+                self.assertEqual(pool.reading(cut), pool.reading(image))
+                self.assertEqual(pool.reading(recovered(cut)), undone)
+                self.assertFalse(pool.reads_as_finished(image, "grow", (place, size), fuse))
+            self.assertTrue(pool.reads_as_finished(image, "grow", (place, size), length))
+            self.assertEqual(after(image, "grow", place, size, fuse=length), whole)
+            if undone != done:
+                bodies = dict(done[3])
+                self.assertEqual(bodies[place - 64], body_and_state(whole, place)[0])
+
+    # The turn is the last store: the third, or the first; none where nothing is stored.
+    def test_turning_store(self):
+        for following, size, turn in ((512, 65, 3), (128, 65, 1), (512, 64, 0)):
+            image = growing_pool(ACTIVE, 128, following, OLD_RECORD)
+            self.assertEqual(pool.turning_store(image, "grow", (16576, size)), turn)
+
+    # Asked again for the same, it has enough; asked again behind a cut and a recovery, an
+    # ACTIVE clump grows as at first.
+    def test_asked_again(self):
+        for image, place, size in growths_with_room(55, 200):
+            whole = after(image, "grow", place, size)
+            self.assertEqual(pool.grow(bytearray(whole), place, size), (0, place, 0, 0, 0, 0))
+            if pool.word(image, place - 56) == ACTIVE:
+                expected = pool.grow(recovered(image), place, size)
+                for fuse in range(stores_of(image, "grow", (place, size))):
+                    cut = recovered(after(image, "grow", place, size, fuse=fuse))
+                    self.assertEqual(pool.grow(cut, place, size), expected)
+
+    # Freed, a clump that has grown leaves what it leaves if it hasn't: it is joined to the
+    # rest, as it is to the next clump, or to none.
+    def test_freed_again(self):
+        freed = 0
+        for image, place, size in growths_with_room(56, 300):
+            one, other = bytearray(image), after(image, "grow", place, size)
+            if pool.free(one, place).answer == pool.free(other, place).answer == 0:
+                self.assertEqual(tiles(other), tiles(one))
+                freed += 1
+        self.assertGreaterEqual(freed, 50)
+
+    # A target in the next clump, in its header (16640) or its body (16704, 16824), is valid
+    # once the grown body covers it; the rest's header and body (16832, 16896) aren't.
+    def test_targets(self):
+        image = growing_pool(RESERVED, 128, 448, OLD_RECORD)
+        grown = after(image, "grow", 16576, 200)
+        self.assertEqual(tiles(grown)[1:3], [(320, RESERVED), (256, FREE)])
+        for target, before, behind in ((16632, 0, 0), (16640, 10, 0), (16704, 10, 0),
+                                       (16824, 10, 0), (16832, 10, 10), (16896, 10, 10)):
+            for name in ("onactive", "onfree"):
+                for asked, answer in ((image, before), (grown, behind)):
+                    given = pool.ask(bytearray(asked), name, (16576, target, 1))
+                    self.assertEqual(given.answer, answer)
+
+    # Grow judges no target and carries out nothing, whatever the list.
+    def test_lists(self):
+        for mixture in MIXTURES:
+            entries = mixed_entries(mixture, (16576, 16640, 16896))
+            for state in (RESERVED, ACTIVE):
+                image = growing_pool(state, 128, 448, OLD_RECORD, *entries)
+                self.assert_order(image, "grow", (16576, 200),
+                                  [(16832, 256), (16840, 0), (16512, 320)])
+
+    # The script's record has 7 and 9 in the first and the last word of its old body, and
+    # one onfree entry, from its activation up to its freeing, which sets 4096.
+    def test_grow_three_times(self):
+        story = program.Program()
+        sizes, done = [], False
+        for line in program.lines_of(SCRIPTS["grow-three-times"]):
+            printed = story.answer_line(line)
+            done = done or line.startswith(b"activate")
+            if line.startswith(b"free"):
+                break
+            if done:
+                self.assertEqual([pool.word(story.image, at) for at in (16448, 16504, 4096)],
+                                 [7, 9, 0])
+                self.assertEqual(stored_words(story.image, 16384), [4097, 0, 0])
+                self.assertEqual(pool.word(story.image, 16408), 5)
+                sizes.append((line, printed, pool.word(story.image, 16384)))
+        grown = [(printed, nbytes) for line, printed, nbytes in sizes if line[:4] == b"grow"]
+        self.assertEqual(grown, [
+            (b"0 16448 3\n", 192), (b"11 0 2\n", 192), (b"0 16448 3\n", 576),
+            (b"11 0 0\n", 576), (b"11 0 1\n", 576), (b"0 16448 3\n", 2112)])
+        self.assertEqual([nbytes for line, _, nbytes in sizes if line == b"recover"], [192, 576])
+        self.assertEqual((printed, pool.word(story.image, 4096)), (b"0 16448 4\n", 5))
+
+    # The script's freed record had 77 at 16584 and its header at 16512: both are in the
+    # grown body, as they were.
+    def test_grow_over_old_bytes(self):
+        story = program.Program()
+        for line in program.lines_of(SCRIPTS["grow-over-old-bytes"]):
+            story.answer_line(line)
+        body, state = body_and_state(story.image, 16448)
+        self.assertEqual((len(body), state), (256, ACTIVE))
+        self.assertEqual(int.from_bytes(body[16584 - 16448:][:8], "little"), 77)
+        self.assertEqual(int.from_bytes(body[16512 - 16448:][:8], "little"), 16256)
+
+
 # What 01 says of a pool in which no stored target has bit 0 set and which 01 calls
 # sound, in 01's words and in the stored words: W4 changes none of it, but onfree.
 class AsBefore(unittest.TestCase):
@@ -1187,11 +1581,12 @@ class OverManyPools(unittest.TestCase):
         dice = Dice(seed)
         while wanted:
             name = dice.pick(("reserve", "reserve_uncleared", "onactive", "onfree",
-                              "withdraw", "activate", "free", "recover"))
+                              "withdraw", "activate", "free", "recover", "grow"))
             some_pool = dice.pick((cases.sound_pool, cases.marked_pool))
             image = some_pool(dice, settled=name != "recover")
             bodies = [pool.body_of(one) for one in pool.walk(image)]
-            numbers = cases.some_numbers(dice, image, name, bodies)
+            numbers = (cases.some_growth(dice, image) if name == "grow"
+                       else cases.some_numbers(dice, image, name, bodies))
             given = pool.ask(bytearray(image), name, numbers)
             if given.answer == 0 and given.stores:
                 wanted -= 1
@@ -1202,7 +1597,7 @@ class OverManyPools(unittest.TestCase):
     # or recover, or before the first store.  It equals that of recovering the
     # finished image if one or more stores of activate or free were made."  W4, of a
     # RESERVED clump with a marked entry: "Cut before the FREEING store, it reads as
-    # not asked."
+    # not asked."  W6, of grow: "Cut before the nbytes store, it reads as not asked."
     def test_reading_after_a_cut(self):
         tried = set()
         for image, name, numbers, stores in self.accepted(27, 800):
@@ -1218,7 +1613,7 @@ class OverManyPools(unittest.TestCase):
         # and for two.
         for last in (("reserve", 6 + 8), ("reserve", 6 + 16), ("reserve_uncleared", 6),
                      ("onactive", 1), ("onfree", 1), ("withdraw", 0),
-                     ("activate", 7), ("free", 6), ("recover", 7)):
+                     ("activate", 7), ("free", 6), ("recover", 7), ("grow", 2)):
             self.assertIn(last, tried)
 
     # "A second recovery makes no store."
@@ -1309,6 +1704,15 @@ class TheProgram(unittest.TestCase):
         self.assert_output(b"fuse 0\nwalk\nnonsense\nreserve\nreserve 1\n",
                            "16384 16384 0\n?\n?\n11 0 0\n")
 
+    # W6: offset, then size.
+    def test_grow(self):
+        self.assert_output(b"reserve 64\ngrow 16448 1000\ngrow 16448 16321\nwalk\n",
+                           "0 16448 15\n0 16448 3\n5 0 0\n16384 1088 1\n17472 15296 0\n")
+        self.assert_output(b"reserve 64\nfuse 2\ngrow 16448 65\nwalk\n",
+                           "0 16448 15\n11 0 2\n16384 128 1\n16512 16256 0\n")
+        self.assert_output(b"reserve 64\nfuse 0\ngrow 16448 64\ngrow 64 16448\n",
+                           "0 16448 15\n0 16448 0\n6 0 0\n")
+
     def test_refusal_uses_up_the_fuse(self):
         self.assert_output(b"fuse 0\nreserve 0\nreserve 1\n", "4 0 0\n0 16448 15\n")
 
@@ -1327,7 +1731,8 @@ class TheProgram(unittest.TestCase):
     def test_names(self):
         for line in (b"create", b"check", b"Reserve 1", b"WALK", b"walk 1", b"recover 1",
                      b"reserve 1 1", b"onactive 1 1", b"free", b"reserve_uncleared",
-                     b"reserve_uncleared 1 1", b"reserve_ 1", b"reserve uncleared 1"):
+                     b"reserve_uncleared 1 1", b"reserve_ 1", b"reserve uncleared 1",
+                     b"grow", b"grow 1", b"grow 1 1 1", b"Grow 1 1", b"grows 1 1"):
             self.assert_output(line + b"\n", "?\n")
 
     def test_numbers(self):
@@ -1337,6 +1742,9 @@ class TheProgram(unittest.TestCase):
             self.assert_output(name + b"18446744073709551615\n", "5 0 0\n")
             self.assert_output(name + b"00000000000000000000000000001\n",
                                "0 16448 %d\n" % stores)
+        for number in (b"+1", b"-1", b"0x1", b"1.0", b"18446744073709551616", b""):
+            self.assert_output(b"grow 1 " + number + b"\ngrow " + number + b" 1\n", "?\n?\n")
+        self.assert_output(b"grow 18446744073709551615 18446744073709551615\n", "6 0 0\n")
 
     def test_line_length(self):
         line = b"reserve " + b"0" * 191 + b"1"
@@ -1373,13 +1781,14 @@ class TheProgram(unittest.TestCase):
 # What the generator writes
 # ---------------------------------------------------------------------------
 
-# The answers that document 01, with W4 and W5, makes possible for each request.
+# The answers that document 01, with W4, W5 and W6, makes possible for each request.
 POSSIBLE = {
     "create": {0, 1, 11}, "reserve": {0, 1, 2, 3, 4, 5, 11},
     "reserve_uncleared": {0, 1, 2, 3, 4, 5, 11},
     "onactive": {0, 1, 2, 3, 6, 7, 8, 10, 11}, "onfree": {0, 1, 2, 3, 6, 7, 8, 10, 11},
     "withdraw": {0, 1, 2, 3, 6, 7, 9, 11}, "activate": {0, 1, 2, 3, 6, 7, 10, 11},
-    "free": {0, 1, 2, 3, 6, 7, 10, 11}, "check": {0, 1, 2}, "recover": {0, 1, 2, 11}}
+    "free": {0, 1, 2, 3, 6, 7, 10, 11}, "check": {0, 1, 2}, "recover": {0, 1, 2, 11},
+    "grow": {0, 1, 2, 3, 4, 5, 6, 7, 11}}
 
 
 class TheGenerator(unittest.TestCase):
@@ -1389,7 +1798,7 @@ class TheGenerator(unittest.TestCase):
         cls.cases = cases.all_cases()
 
     def test_number_of_cases(self):
-        self.assertTrue(7000 <= len(self.cases) <= 8000, len(self.cases))
+        self.assertTrue(8000 <= len(self.cases) <= 9000, len(self.cases))
         self.assertGreaterEqual(len(SCRIPTS), 24)
 
     def test_every_answer_of_every_request(self):
@@ -1490,7 +1899,7 @@ class TheGenerator(unittest.TestCase):
             if given.stores and (not changed or (given.flush_from, given.flush_to)
                                  != (changed[0], changed[-1] + 8)):
                 told.add((one.image, one.name, one.numbers))
-        self.assertEqual(len(asked), 11)
+        self.assertEqual(len(asked), 12)
         self.assertEqual(told, asked)
 
     def test_last_word_assigned(self):
@@ -1556,6 +1965,57 @@ class TheGenerator(unittest.TestCase):
                     self.assertEqual(len(changed), 1)
         # Split and not, of one unit and of two.
         self.assertEqual(bodies, {(7, 8), (7, 16), (4, 8), (4, 16)})
+
+    # W6, of every case: what a grow finds is what it answers, where the pool is settled and
+    # the clump live; it stores those words and no other, and of these the first so many.
+    def test_every_grow(self):
+        found = set()
+        for one in self.cases:
+            image = bytearray(one.image)
+            if one.name != "grow":
+                continue
+            given = pool.ask(image, one.name, one.numbers, one.fuse)
+            if given.answer not in (0, 5, 11):
+                continue
+            place, size = one.numbers
+            room, state = room_behind(one.image, place, size), pool.word(one.image, place - 56)
+            stores = stores_of_growth(one.image, place, size) if room == "room" else []
+            answer = 11 if len(stores) > one.fuse else 0 if room in ("room", "enough") else 5
+            self.assertEqual((given.answer, given.stores), (answer, len(stores[:one.fuse])))
+            self.assertEqual(image, with_words(one.image, dict(stores[:one.fuse])))
+            found.add((state, room, len(stores), given.answer == 11))
+        self.assertEqual(found, {
+            (state, *what) for state in (RESERVED, ACTIVE) for what in
+            (("enough", 0, False), ("missing", 0, False), ("not FREE", 0, False),
+             ("too small", 0, False), ("room", 1, False), ("room", 1, True),
+             ("room", 3, False), ("room", 3, True))})
+
+    # The choices of growing pools are what they say: every fuse, and each store changes
+    # its word, so that two stores that change places are seen, and one that is left out; in
+    # the rest's state there stands an old word, no 0.  From 64 too small up to a rest of
+    # 192, RESERVED and ACTIVE, over each kind of old words.
+    def test_growing_choices(self):
+        fuses = {}
+        for one in cases.growing_choices_cut():
+            fuses.setdefault((one.image, one.numbers), set()).add(one.fuse)
+        found, old = set(), set()
+        for (image, numbers), tried in fuses.items():
+            length = stores_of(image, "grow", numbers)
+            self.assertEqual(tried, {*range(length + 1), LARGEST})
+            for fuse in range(length):
+                changed = changed_words(after(image, "grow", *numbers, fuse=fuse),
+                                        after(image, "grow", *numbers, fuse=fuse + 1))
+                self.assertEqual(len(changed), 1)
+            end = 16512 + pool.word(image, 16512)
+            need = 64 + 64 * -(-numbers[1] // 64)
+            rest = end - 16512 + pool.word(image, end) - need
+            found.add((pool.word(image, 16520), rest, length))
+            if length == 3:
+                old.add(pool.word(image, 16512 + need + 8))
+        self.assertEqual(found, {
+            (state, rest, length) for state in (RESERVED, ACTIVE) for rest, length in
+            ((-64, 0), (0, 1), (64, 1), (128, 3), (192, 3))})
+        self.assertEqual(old, {words[1] for words in OLD_WORDS})
 
     # Of many zeros the fuses that tell: all of the others', and among the zeros those
     # where they begin, the middle, and those where they end.

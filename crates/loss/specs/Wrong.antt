@@ -1,4 +1,4 @@
--- 01, "Plausible builds that are wrong", and six more, two of them W4's and one W5's: each order of stores that the laws refuse, on a small
+-- 01, "Plausible builds that are wrong", and eight more, two of them W4's, one W5's and two W6's: each order of stores that the laws refuse, on a small
 -- pool, cut where it hurts, and what recovery then answers and leaves; of W5's, what the cut leaves, since recovery hides it. So the laws
 -- are not about one order by chance: these orders are wrong. One table, proved by computing. The numbers are worked out by hand from the
 -- paper's rules. Assumes nothing.
@@ -12,7 +12,7 @@ use Rattle.rules.specs.Lists.{seek}
 use Rattle.rules.specs.Words.{Store, store, after}
 use Rattle.rules.specs.Clumps.{Head, head, stateAt, slots, valueAt, used, marked, unmarked, slotsBy, entriesBy, isPending, FREE, RESERVED, ACTIVATING, ACTIVE, FREEING, walk}
 use Rattle.rules.specs.Answers.{answerOf}
-use Rattle.rules.specs.Stores.{emptying, setState, clearing, finishing, releasing, released, runs, joining, finishFreeing}
+use Rattle.rules.specs.Stores.{emptying, setState, restHeader, clearing, finishing, releasing, released, runs, joining, finishFreeing}
 use Rattle.rules.specs.Requests.{verdict}
 use Rattle.rules.specs.Reading.{Listed, listing}
 use Rattle.rules.specs.Cases.{Pool, poolOf, shape, under, longest, caseH, everyRule}
@@ -101,6 +101,17 @@ valve = poolOf ((128, 0) ∷ []) (store 16448 5 ∷ [])
 abbrev clearedLast : List Store
 clearedLast = emptying (slots 16384) ++ (setState (first valve) RESERVED ∷ clearing true 16384 128)
 
+-- W6, grow to 65 of an ACTIVE clump of 128 bytes before a FREE one of 320, in whose body old words stand where the rest's header comes: the
+-- grown nbytes first, and the rest's state left out
+abbrev before320 : Pool
+before320 = poolOf ((128, 3) ∷ (320, 0) ∷ []) (store 16576 7 ∷ store 16584 9 ∷ [])
+
+abbrev grownFirst : List Store
+grownFirst = store 16384 192 ∷ restHeader 16576 256
+
+abbrev stateless : List Store
+stateless = store 16576 256 ∷ store 16384 192 ∷ []
+
 -- what a technician reads in an image: the clumps, and the first word of the first body
 abbrev raw : Pool → List (ℕ × ℕ) × ℕ
 raw p = (shape p, p .1 16448)
@@ -127,7 +138,10 @@ Wrong =
     -- W5: "an old valve position out of a fresh record", which would have to be FREE still; recovered it is, so that only a raw image shows it
     × (raw (cutAt 4 valve clearedLast) ≡ ((128, 1) ∷ [], 5))
     × (recovered (cutAt 4 valve clearedLast) ≡ ((0, 0), ((128, 0) ∷ []), [], (0, 0)))
+    -- W6: "the rest's header first": the walk meets an old word for the rest's nbytes, fault 1; finished, an old word for its state, fault 2
+    × (recovered (cutAt 1 before320 grownFirst) .0 ≡ (2, 1))
+    × (recovered (cutAt 2 before320 stateless) .0 ≡ (2, 2))
 
 pub wrong : Wrong
 unfolding everyRule
-wrong = (refl, refl, refl, refl, refl, refl, refl, refl, refl, refl, refl)
+wrong = (refl, refl, refl, refl, refl, refl, refl, refl, refl, refl, refl, refl, refl)

@@ -19,7 +19,7 @@ use Rattle.word.specs.Runs.{Ran}
 use Rattle.survey.specs.declared.Checked.{Checked}
 use Rattle.survey.specs.Checking.{Checks}
 
--- the contracts of the nine requests that may store, and of `ask`
+-- the contracts of the ten requests that may store, and of `ask`
 pub determined : Determined
 determined img q fuse x y r s a b = (a .stored ∙ sym (b .stored), a .answered ∙ sym (b .answered))
 

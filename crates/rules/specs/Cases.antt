@@ -4,7 +4,8 @@
 -- Assumes nothing.
 use Prim.Native.Nat.{ℕ, _+_, _-_}
 use mathlib.Core.Path.{_≡_, refl}
-use mathlib.Core.Bool.{true, false}
+use mathlib.Core.Bool.{true, false, cond, _&&_}
+use lib.Dec.{leb, ltb}
 use mathlib.Core.List.{List, [], _∷_, _++_, map}
 use lib.ListN.{take, replicate}
 use Rattle.rules.specs.declared.Answer.{Answer}
@@ -12,10 +13,10 @@ use Rattle.rules.specs.declared.Request.{Request}
 use Rattle.rules.specs.declared.Request.the-variants.{Create, Reserve, Activate, Free, Recover}
 use Rattle.rules.specs.Lists.{seek, those, any, all}
 use Rattle.rules.specs.Words.{Mem, Store, store, wordValues, le, puts, wordAt, put, mem, upd, after, zeros, allZero}
-use Rattle.rules.specs.Pages.{headerAt, signatureLow, signatureHigh, signatureHighAt, totalAt, clumpsAt, staticAt, rightLength, isPool}
+use Rattle.rules.specs.Pages.{headerAt, signatureLow, signatureHigh, signatureHighAt, totalAt, paddingAt, clumpsAt, staticAt, rightLength, isPool}
 use Rattle.rules.specs.Clumps.{stateAt, marked, unmarked, targetOf, headsFrom, walk}
 use Rattle.rules.specs.Sound.{sizeBad, stateBad, inPlace, listBad, faultOf, clumpFault, secondFault, isValid, allValid, targetFault, judge, touching, unsettled}
-use Rattle.rules.specs.Answers.{storesOf, widened, answerOf, ifSound, ifSettled, bytesOf}
+use Rattle.rules.specs.Answers.{Verdict, made, storesOf, widened, answerOf, ifSound, ifSettled, bytesOf}
 use Rattle.rules.specs.Stores.{createStores, needOf, clearedWords, reserveStores, finishActivating, finishFreeing, growStores, activateStores, dropStores, freeStores, releasing, runs, joining, recoverStores}
 use Rattle.rules.specs.Requests.{reserve, reserving, grown, grow, openSlot, enlist, withdraw, activate, free, verdict, answerFor}
 
@@ -32,17 +33,16 @@ abbrev pub endFrom : ℕ → List (ℕ × ℕ) → ℕ
 endFrom a [] = a
 endFrom a (c ∷ cs) = endFrom (a + c .0) cs
 
--- the pool of these clumps, with further words stored; every other word is 0
+-- the page of a pool of n bytes, and the headers of its clumps; every other word is 0. Of the padding that is said first: the page test reads
+-- 509 of its words
+abbrev pub laid : ℕ → List (ℕ × ℕ) → Mem
+laid n cs o =
+    cond (leb paddingAt o && ltb o clumpsAt) 0
+    (after (λ i. 0) (store headerAt signatureLow ∷ store signatureHighAt signatureHigh ∷ store totalAt n ∷ headers clumpsAt cs) o)
+
+-- the pool of these clumps, with further words stored
 abbrev pub poolOf : List (ℕ × ℕ) → List Store → Pool
-poolOf cs more =
-    let n = endFrom clumpsAt cs in (
-      n,
-      after (λ o. 0)
-          (store headerAt signatureLow
-          ∷ store signatureHighAt signatureHigh
-          ∷ store totalAt n
-          ∷ (headers clumpsAt cs ++ more)),
-    )
+poolOf cs more = let n = endFrom clumpsAt cs in (n, after (laid n cs) more)
 
 -- nbytes and state of each clump
 abbrev pub shape : Pool → List (ℕ × ℕ)
@@ -64,8 +64,11 @@ answerIn fuse p q = answerFor (p .0) (p .1) q fuse
 abbrev pub Row : Type 0
 Row = ℕ × ℕ × ℕ × List (ℕ × ℕ)
 
+abbrev pub rowOf : ℕ → Pool → Verdict → Row
+rowOf fuse p v = let r = answerOf fuse v in (r .answer, r .place, r .stores, shape (p .0, after (p .1) (made fuse v)))
+
 abbrev pub row : ℕ → Pool → Request → Row
-row fuse p q = let r = answerIn fuse p q in (r .answer, r .place, r .stores, shape (under fuse p q))
+row fuse p q = rowOf fuse p (verdict (p .0) (p .1) q)
 
 -- reserve, in both forms: that which clears, and the other
 abbrev pub rows : Pool → ℕ → List Row

@@ -12,7 +12,7 @@ use Rattle.rules.specs.declared.Answer.{Answer}
 use Rattle.rules.specs.Words.{Image, mem, store, wordBytes, wordValues}
 use Rattle.rules.specs.Clumps.{Head, head, headerBytes, isWaiting}
 use Rattle.rules.specs.Answers.{granted, refuse, sizeZero, noRoom, wrongState}
-use Rattle.rules.specs.Stores.{needOf, leastRest, restHeader, growStores, freeAfter}
+use Rattle.rules.specs.Stores.{needOf, isSplit, restHeader, growStores, freeAfter}
 use Rattle.rules.specs.Requests.{finder, found, enlarged, grown, grow}
 use Rattle.rules.specs.Reading.{clumpsOf, Tiled}
 use Rattle.laws.specs.Pools.{answerIs}
@@ -67,13 +67,12 @@ module _ (hs : List Head) (offset size : ℕ) (h : Head) where
   pub grown-takes :
       isWaiting h ≡ true
       → h .nbytes - headerBytes < size
-      → h .nbytes < needOf size
       → needOf size ≤ h .nbytes + sizeOf (freeAfter hs h)
       → grown hs offset size h ≡ granted offset (growStores (needOf size) (h .at) (h .nbytes + sizeOf (freeAfter hs h)))
-  grown-takes e l d u = grown-more e l ∙ go (freeAfter hs h) u
+  grown-takes e l u = grown-more e l ∙ go (freeAfter hs h) u
     where
       go : (o : Option Head) → needOf size ≤ h .nbytes + sizeOf o → enlarged offset (needOf size) h o ≡ granted offset (growStores (needOf size) (h .at) (h .nbytes + sizeOf o))
-      go none u = absurd (omega arith)
+      go none u = absurd (omega (arith, l, need-body size))
       go (some k) u = rw (le-ltb (h .nbytes + k .nbytes) (needOf size) u)
 
 -- the clump at h that was found, with the nbytes n that the code has of it, and k of the clump behind, if that is FREE
@@ -119,7 +118,7 @@ module _ {img : Image} {offset size h : ℕ} (t : Growing img offset size h) (n 
       pub taken-acts : {x : Image} {r : Answer} → needOf size ≤ n + k → Acts img (granted offset (growStores (needOf size) h (n + k))) fuse x r → Acts img (grown (clumpsOf img) offset size this) fuse x r
       taken-acts l a =
           acts-same _ _
-          (grown-takes (clumpsOf img) offset size this waits (rw (← size-is) short) (rw (← size-is) (omega (arith, short, need-body size))) (rw (← both-is k behind) l)
+          (grown-takes (clumpsOf img) offset size this waits (rw (← size-is) short) (rw (← both-is k behind) l)
           ∙ ap (λ (b : ℕ). granted offset (growStores (needOf size) h b)) (sym (both-is k behind)))
           a
 
@@ -127,18 +126,18 @@ module _ {img : Image} {offset size h : ℕ} (t : Growing img offset size h) (n 
 module _ (img : Image) (h both size offset fuse k : ℕ) (p : Power) (fresh : p ≡ full fuse) (need-eq : k ≡ needOf size) where
   pub split-acts :
       {x : Image} {q : Power} {r : Answer}
-      → leastRest ≤ both - k
+      → isSplit k both ≡ true
       → Ran img p (restHeader (h + k) (both - k) ++ (store h k ∷ [])) x q
       → r ≡ told q offset
       → Acts img (granted offset (growStores (needOf size) h both)) fuse x r
   unfolding growStores
-  split-acts l s e = rw (← need-eq, le-leb leastRest (both - k) l) (acts-ran fuse offset (rw fresh at s) e)
+  split-acts l s e = rw (← need-eq, l) (acts-ran fuse offset (rw fresh at s) e)
 
   pub whole-acts :
       {x : Image} {q : Power} {r : Answer}
-      → both - k < leastRest
+      → isSplit k both ≡ false
       → Ran img p (store h both ∷ []) x q
       → r ≡ told q offset
       → Acts img (granted offset (growStores (needOf size) h both)) fuse x r
   unfolding growStores
-  whole-acts l s e = rw (← need-eq, lt-leb leastRest (both - k) l) (acts-ran fuse offset (rw fresh at s) e)
+  whole-acts l s e = rw (← need-eq, l) (acts-ran fuse offset (rw fresh at s) e)

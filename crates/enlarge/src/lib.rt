@@ -1,5 +1,4 @@
 // Grow: a live clump made larger where it stands, by the FREE clump behind it. It takes any bytes, any numbers and any fuse.
-ghost use mathlib.Core.Path.{_≡_};
 ghost use Prim.Native.Nat.{_+_};
 ghost use lib.ListN.{length};
 ghost use Rattle.rules.specs.declared.Request.the-variants.{Grow};
@@ -24,7 +23,7 @@ fn extend(img: &mut [u8], h: usize, both: u64, size: u64, offset: u64, fuse: u64
 {
     let need = need::need_of(size);
     let p = Power::new(fuse);
-    if Clump::LEAST <= both - need {
+    if need::is_split(both, need) {
         let p1 = steps::head_rest(img, p, h + need as usize, both - need);
         let p2 = word::store(img, p1, h, need);
         return answer::finish(p2, offset);

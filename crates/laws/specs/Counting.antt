@@ -130,7 +130,7 @@ grow-counted img o size p st g = let x = go (g .stores) in (g .clump, g .found, 
         × (g .clump .nbytes + next .nbytes < needOf size + leastRest → length st ≡ wholeGrowCount))
     go (enough e) = ((λ i. refl), (λ i. absurd (omega (arith, e, l .least))))
     go (takes next e f r) = (
-      (λ i. absurd (omega (arith, e, l .least))),
+      (λ i. absurd (omega (arith, e))),
       (λ i. (next, f, (λ d. unfold growStores in rw (le-leb leastRest (g .clump .nbytes + next .nbytes - needOf size) (omega arith))), (λ d. unfold growStores in rw (lt-leb leastRest (g .clump .nbytes + next .nbytes - needOf size) (omega arith))))),
     )
 

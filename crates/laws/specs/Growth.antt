@@ -1,6 +1,6 @@
 -- Where grow finds no room: answer 5 is given exactly if the earlier tests pass, the body is not enough, and there is no clump to take. One way
 -- through the tests of the verdict, each of which but the last has another answer; the other way the tests are computed. Assumes nothing.
-use Prim.Native.Nat.{ℕ, _+_, _-_, _<_}
+use Prim.Native.Nat.{ℕ, _+_, _-_}
 use mathlib.Core.Path.{_≡_, refl, ap, _∙_}
 use mathlib.Core.Bool.{Bool, true, false, cond, not, _||_}
 use mathlib.Core.Logic.{_⊎_, inl, inr}
@@ -19,7 +19,6 @@ use Rattle.rules.specs.Stores.{needOf, growStores, ifFree, freeAfter}
 use Rattle.rules.specs.Requests.{finder, enlarged, grown, grow, verdict, verdictOn}
 use Rattle.rules.specs.Reading.{clumpsOf}
 use Rattle.rules.specs.Demands.{NoneToTake, NoGrowth, GrowRoom}
-use Rattle.laws.specs.Lying.{found-lies}
 use Rattle.laws.specs.Behind.{through-test, through-settled, through-found}
 use Rattle.laws.specs.Served.{granted-room}
 use Rattle.laws.specs.Pools.{Sound}
@@ -65,10 +64,6 @@ module _ (fuse o need : ℕ) (h : Head) where
       go false = refl
 
 module _ (img : Image) (o size fuse : ℕ) where
-  -- the body is not enough
-  short : (h : Head) → Sound (length img) (mem img) → finder (clumpsOf img) o ≡ some h → h .nbytes - headerBytes < size → h .nbytes < headerBytes + size
-  short h s e l = omega (arith, l, found-lies (length img) (mem img) s _ h e .least)
-
   abbrev P : Verdict → Type 0
   P v = answerOf fuse v .answer ≡ noRoom → NoGrowth img o size
 
@@ -93,14 +88,13 @@ module _ (img : Image) (o size fuse : ℕ) where
           → P (cond b (granted o []) (enlarged o (needOf size) h (freeAfter (clumpsOf img) h)))
       go s u z h f w true q e = absurd (granted-room (ltb fuse 0) o _ _ e)
       go s u z h f w false q e =
-          let l = short h s f (leb-false size _ q) in
           record {
             settled = record { pool = s .pool; sound = s .sound; calm = u };
             asked = omega arith;
             clump = h;
             found = f;
             state = either-state RESERVED ACTIVE h w;
-            less = omega arith;
+            less = omega (arith, leb-false size _ q);
             none-left = none-out fuse o (needOf size) h (nextOf (clumpsOf img) h) e;
           }
 

@@ -79,7 +79,7 @@ module _ (P : Store → Type 0) (N : Type 0) (n : ℕ) (m : Mem) (heads : Sound 
     where
       go : Sound n m → (h : Head) → In P N n h → (b : Bool) → leb size (h .nbytes - headerBytes) ≡ b → Each P (storesOf (cond b (granted o []) (enlarged o (needOf size) h (freeAfter (walk n m) h))))
       go s h t true q = tt
-      go s h t false q = enlarged-lands s o size h t (omega (arith, leb-false size _ q, t .0 .least)) (freeAfter (walk n m) h) refl
+      go s h t false q = enlarged-lands s o size h t (omega (arith, leb-false size _ q)) (freeAfter (walk n m) h) refl
 
   enlist-lands : (a : Head → Bool) (p t u v : ℕ) (h : Head) → In P N n h → (isValid (walk n m) t ≡ true → N → u < wordValues) → (N → v < wordValues) → Each P (storesOf (enlist m (walk n m) a p t u v h))
   unfolding enlist

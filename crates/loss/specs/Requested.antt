@@ -30,7 +30,6 @@ use Rattle.laws.specs.Verdicts.{either-live}
 use Rattle.loss.specs.Orders.{reserveOrder, growOrder, listOrder, recoverOrder}
 use Rattle.loss.specs.Held.{Held, Idle, sound-held}
 use Rattle.loss.specs.Fates.{fates, Owned, Rests}
-use Rattle.loss.specs.Parts.{parted-one}
 use Rattle.loss.specs.Neighbours.{free-after, next-some}
 use Rattle.loss.specs.Reserving.{Reserved, reserves}
 use Rattle.loss.specs.Growing.{Enlarged, enlarges}
@@ -113,8 +112,7 @@ module _ (n : ℕ) (m : Mem) (s : Sound n m) (u : unsettled (walk n m) ≡ false
   enlarging size h next a w l e r =
       let p = a .below in
       let x = next-some (a .above) next (sym (free-after clumpsAt n p h (a .above) (a .held .tiles)) ∙ ap (λ (hs : List Head). freeAfter hs h) (sym (a .whole)) ∙ e) in
-      let i = x .1 in
-      let c = parted-one n p h (a .above) (a .held .tiles) .part .0 .least in (
+      let i = x .1 in (
         x .0,
         i,
         enlarges n m p h next (x .0)

@@ -1,18 +1,18 @@
 -- A law for each way out of reserve, and what it asks of the clump that was found. Assumes nothing.
-use Prim.Native.Nat.{ℕ, _+_, _-_, _<_, _≤_}
+use Prim.Native.Nat.{ℕ, _+_, _-_, _<_}
 use mathlib.Core.Path.{_≡_}
-use mathlib.Core.Bool.{Bool}
+use mathlib.Core.Bool.{Bool, true, false}
 use mathlib.Core.Option.{some, none}
 use mathlib.Core.List.{List, _∷_, _++_}
 use native.Mathlib.Omega.{arith}
-use borrow.Author.Tests.{eq-eqb, ne-eqb, le-leb, lt-leb, leb-true}
+use borrow.Author.Tests.{eq-eqb, ne-eqb, leb-true}
 use Rattle.rules.specs.declared.Answer.{Answer}
 use Rattle.rules.specs.Lists.{seek}
 use Rattle.rules.specs.Words.{Image, Mem, mem, store, wordValues}
 use Rattle.rules.specs.Pages.{clumpsAt}
 use Rattle.rules.specs.Clumps.{Head, head, isFree, headerBytes, slots, Tiles, walk, offsetOf}
 use Rattle.rules.specs.Answers.{granted, refuse, sizeZero, noRoom}
-use Rattle.rules.specs.Stores.{needOf, fits, emptying, leastRest, restHeader, taking, reserveStores}
+use Rattle.rules.specs.Stores.{needOf, fits, emptying, isSplit, restHeader, taking, reserveStores}
 use Rattle.rules.specs.Requests.{reserve}
 use Rattle.laws.specs.Searches.{and-both, seek-split}
 use Rattle.laws.specs.Needs.{need-clump}
@@ -48,21 +48,21 @@ fit-found n m size r z s t e l =
 -- the stores of reserve, split or whole
 pub stores-split :
     (clears : Bool) (need : ℕ) (h : Head)
-    → leastRest ≤ h .nbytes - need
+    → isSplit need (h .nbytes) ≡ true
     → reserveStores clears need h
     ≡ restHeader (h .at + need) (h .nbytes - need) ++ (emptying (slots (h .at)) ++ (store (h .at) need ∷ taking clears (h .at) need))
 unfolding reserveStores
-stores-split clears need h l = rw (le-leb leastRest (h .nbytes - need) l)
+stores-split clears need h e = rw e
 
-pub stores-whole : (clears : Bool) (need : ℕ) (h : Head) → h .nbytes - need < leastRest → reserveStores clears need h ≡ emptying (slots (h .at)) ++ taking clears (h .at) (h .nbytes)
+pub stores-whole : (clears : Bool) (need : ℕ) (h : Head) → isSplit need (h .nbytes) ≡ false → reserveStores clears need h ≡ emptying (slots (h .at)) ++ taking clears (h .at) (h .nbytes)
 unfolding reserveStores
-stores-whole clears need h l = rw (lt-leb leastRest (h .nbytes - need) l)
+stores-whole clears need h e = rw e
 
 -- reserve in the clump that was found: with the nbytes n and the need k that the code has, and the power p that it starts from
 module _ (img : Image) (clears : Bool) (h size fuse n k : ℕ) (p : Power) (fresh : p ≡ full fuse) (size-is : n ≡ mem img h) (need-eq : k ≡ needOf size) where
   pub split-acts :
       {x : Image} {q : Power} {r : Answer}
-      → leastRest ≤ n - k
+      → isSplit k n ≡ true
       → Ran img p (restHeader (h + k) (n - k) ++ (emptying (slots h) ++ (store h k ∷ taking clears h k))) x q
       → r ≡ told q (h + headerBytes)
       → Acts img (granted (h + headerBytes) (reserveStores clears (needOf size) (head (mem img) h))) fuse x r
@@ -72,7 +72,7 @@ module _ (img : Image) (clears : Bool) (h size fuse n k : ℕ) (p : Power) (fres
 
   pub whole-acts :
       {x : Image} {q : Power} {r : Answer}
-      → n - k < leastRest
+      → isSplit k n ≡ false
       → Ran img p (emptying (slots h) ++ taking clears h n) x q
       → r ≡ told q (h + headerBytes)
       → Acts img (granted (h + headerBytes) (reserveStores clears (needOf size) (head (mem img) h))) fuse x r

@@ -73,7 +73,7 @@ fn reserve_at(img: &mut [u8], h: usize, size: u64, clears: bool, fuse: u64) -> A
     let n = word::get(img, h);
     let need = need::need_of(size);
     let p = Power::new(fuse);
-    if Clump::LEAST <= n - need {
+    if need::is_split(n, need) {
         let q = split_off(img, p, h, need as usize, n - need, clears);
         return answer::finish(q, h as u64 + Clump::HEADER);
     }

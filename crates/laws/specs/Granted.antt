@@ -17,7 +17,7 @@ use Rattle.rules.specs.Words.{Image, Mem, Store, mem}
 use Rattle.rules.specs.Pages.{rightLength}
 use Rattle.rules.specs.Clumps.{Head, headerBytes, bodyOf, RESERVED, hasState, isWaiting, slots, used, unmarked, withMark, freed, slotsBy, walk}
 use Rattle.rules.specs.Sound.{unsettled, isValid, allValid}
-use Rattle.rules.specs.Answers.{done, notPool, notSound, sizeZero, noRoom, wrongState, badTarget, cutShort, Verdict, refused, granted, test, flushOf, answerAt, answerOf, ifSound, ifSettled}
+use Rattle.rules.specs.Answers.{done, notPool, notSound, sizeZero, noRoom, wrongState, badTarget, cutShort, Verdict, refused, granted, storesOf, test, flushOf, answerAt, answerOf, ifSound, ifSettled}
 use Rattle.rules.specs.Stores.{createStores, needOf, fits, reserveStores, growStores, freeAfter, listStores, withdrawStores, activateStores, freeStores, recoverStores}
 use Rattle.rules.specs.Requests.{placed, reserve, reserving, enlarged, grown, grow, finder, found, listed, openSlot, enlist, withdrawn, withdraw, activate, free, verdict, verdictOn, answerOn}
 use Rattle.laws.specs.Pools.{Sound}
@@ -28,6 +28,11 @@ module _ (G : ℕ → List Store → Type 0) where
   abbrev pub Fair : Verdict → Type 0
   Fair (refused a p f) = (done < a) × (a < cutShort) × ((a ≡ notSound → ⊥) → f ≡ 0)
   Fair (granted p st) = G p st
+
+  -- what holds of no store, and of the stores of each grant, holds of those of a fair verdict
+  pub fair-stores : (Q : List Store → Type 0) → Q [] → ((p : ℕ) (st : List Store) → G p st → Q st) → (v : Verdict) → Fair v → Q (storesOf v)
+  fair-stores Q z k (refused a p f) e = z
+  fair-stores Q z k (granted p st) e = k p st e
 
   fair-test : (b : Bool) (a : ℕ) (v : Verdict) → done < a → a < cutShort → (b ≡ false → Fair v) → Fair (test b a v)
   fair-test b a v l u k = through-test Fair b a v (l, u, λ e. refl) k
@@ -104,7 +109,7 @@ fair-reserve clears n m size =
     go s u z none e = (omega arith, omega arith, λ i. refl)
     go s u z (some h) e = record { sound = s; calm = u; asked = z; clump = h; found = e; place = refl; stores = refl }
 
-fair-grow : (n : ℕ) (m : Mem) (o size : ℕ) → Fair (Grows n m o size) (ifSettled n m (grow (walk n m) o size))
+pub fair-grow : (n : ℕ) (m : Mem) (o size : ℕ) → Fair (Grows n m o size) (ifSettled n m (grow (walk n m) o size))
 unfolding grow grown
 fair-grow n m o size =
     fair-settled G n m _

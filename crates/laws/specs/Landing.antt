@@ -1,24 +1,24 @@
 -- Where the stores of a request land: in the header of a clump, in the FREE clump that is split, or at the words that the list being
 -- carried out names; create's apart. What holds of every such store holds of each store of the request. By cases on the requests.
 -- Assumes nothing.
-use Prim.Native.Nat.{ℕ, _+_, _-_, _<_}
+use Prim.Native.Nat.{ℕ, _<_}
 use mathlib.Core.Path.{_≡_, refl, ap, _∙_}
 use mathlib.Core.Bool.{Bool, true, false, not, cond}
 use mathlib.Core.Option.{Option, some, none}
-use mathlib.Core.List.{[], _∷_, _++_, map}
+use mathlib.Core.List.{List, [], _∷_, _++_, map}
 use native.Mathlib.Omega.{arith}
-use lib.Dec.{eqb, leb, ltb}
-use borrow.Author.Tests.{eqb-true, leb-true, leb-false, ltb-false, not-false}
+use lib.Dec.{eqb}
+use borrow.Author.Tests.{eqb-true, leb-true, not-false}
 use Rattle.rules.specs.declared.Request.{Request}
 use Rattle.rules.specs.declared.Request.the-variants.{Create, Reserve, ReserveUncleared, Grow, Onactive, Onfree, Withdraw, Activate, Free, Check, Recover}
 use Rattle.rules.specs.Lists.{seek, those, Each}
 use Rattle.rules.specs.Words.{Mem, Store, store, wordValues}
 use Rattle.rules.specs.Pages.{clumpsAt, rightLength}
-use Rattle.rules.specs.Clumps.{Head, headerBytes, endOf, isFree, isWaiting, isPending, slots, Choice, used, marked, unmarked, withMark, due, freed, slotsBy, entriesBy, hasState, FREE, RESERVED, ACTIVATING, ACTIVE, FREEING, walk, nextOf, beforeOf}
+use Rattle.rules.specs.Clumps.{Head, endOf, isFree, isWaiting, isPending, slots, Choice, used, marked, unmarked, withMark, due, freed, slotsBy, entriesBy, hasState, FREE, RESERVED, ACTIVATING, ACTIVE, FREEING, walk, nextOf, beforeOf}
 use Rattle.rules.specs.Sound.{isValid, allValid}
-use Rattle.rules.specs.Answers.{Verdict, granted, storesOf, ifSettled, notPool, sizeZero, noRoom, wrongState, badTarget}
+use Rattle.rules.specs.Answers.{Verdict, storesOf, ifSettled, notPool, sizeZero, wrongState, badTarget}
 use Rattle.rules.specs.Stores.{setState, createStores, needOf, fits, finishActivating, finishFreeing, activateStores, hasMarked, dropStores, emptying, freeAfter, freeBefore, joinBoth, freeStores, finishing, releasing, released, runs, joining, recoverStores}
-use Rattle.rules.specs.Requests.{Numbers, placed, reserve, enlarged, grown, grow, finder, found, openSlot, enlist, withdraw, activate, free, verdict}
+use Rattle.rules.specs.Requests.{Numbers, placed, reserve, grow, finder, found, openSlot, enlist, withdraw, activate, free, verdict}
 use Rattle.rules.specs.Traces.{isCreate}
 use Rattle.rules.specs.Demands.{entriesOf, carriedOut}
 use Rattle.laws.specs.Searches.{those-each, and-both, seek-each, seek-split, each-append, each-map, each-both, map-each}
@@ -31,6 +31,7 @@ use Rattle.laws.specs.Pools.{Sound, pool-length, pool-tiles}
 use Rattle.laws.specs.Lying.{Lies, all-lie, valid-even}
 use Rattle.laws.specs.Spans.{runs-tile, runs-first}
 use Rattle.laws.specs.Choices.{mark-word, open-each}
+use Rattle.laws.specs.Granted.{Enlarges, enough, takes, Grows, fair-stores, fair-grow}
 use Rattle.laws.specs.Taking.{Takes, Slot, slots-in, chosen-in, In, state-lands, size-lands, emptying-lands, reserve-lands, grow-lands, listed-lands, withdrawn-lands, activated-lands, freed-lands, both-lands, joining-lands}
 
 -- on a pool whose clumps take the stores
@@ -62,24 +63,16 @@ module _ (P : Store → Type 0) (N : Type 0) (n : ℕ) (m : Mem) (heads : Sound 
   next-in : Sound n m → (h next : Head) → freeAfter (walk n m) h ≡ some next → In P N n next × (next .at ≡ endOf h)
   next-in s h next e = let x = if-free (nextOf (walk n m) h) next e .0 in (found-in s _ next x, eqb-true (next .at) (endOf h) (seek-split _ (walk n m) next x .passes))
 
-  enlarged-lands : Sound n m → (o size : ℕ) (h : Head) → In P N n h → h .nbytes < headerBytes + size → (c : Option Head) → freeAfter (walk n m) h ≡ c → Each P (storesOf (enlarged o (needOf size) h c))
-  enlarged-lands s o size h t l none e = tt
-  enlarged-lands s o size h t l (some next) e =
-      let x = next-in s h next e in
-      behind-test (Each P) tt (ltb (h .nbytes + next .nbytes) (needOf size)) noRoom _
-      (λ z. grow-lands P N n (needOf size) h next t (x .0) (if-free (nextOf (walk n m) h) next e .1) (x .1) (need-even size) (omega (arith, need-body size)) (ltb-false _ (needOf size) z))
-
   growing-lands : (o size : ℕ) → Each P (storesOf (ifSettled n m (grow (walk n m) o size)))
-  unfolding grow grown
   growing-lands o size =
-      behind-settled (Each P) tt n m _
-      (λ s u. behind-test (Each P) tt (eqb size 0) sizeZero _
-      (λ z. behind-found (Each P) tt (finder (walk n m) o) _
-      (λ h e. behind-test (Each P) tt (not (isWaiting h)) wrongState _ (λ w. go s h (found-in s _ h e) (leb size (h .nbytes - headerBytes)) refl))))
+      fair-stores (Grows n m o size) (Each P) tt
+      (λ p st g. go (g .sound) (g .clump) (found-in (g .sound) _ (g .clump) (g .found)) st (g .stores)) (ifSettled n m (grow (walk n m) o size)) (fair-grow n m o size)
     where
-      go : Sound n m → (h : Head) → In P N n h → (b : Bool) → leb size (h .nbytes - headerBytes) ≡ b → Each P (storesOf (cond b (granted o []) (enlarged o (needOf size) h (freeAfter (walk n m) h))))
-      go s h t true q = tt
-      go s h t false q = enlarged-lands s o size h t (omega (arith, leb-false size _ q)) (freeAfter (walk n m) h) refl
+      go : Sound n m → (h : Head) → In P N n h → (st : List Store) → Enlarges n m size h st → Each P st
+      go s h t st (enough l) = tt
+      go s h t st (takes next l e r) =
+          let x = next-in s h next e in
+          grow-lands P N n (needOf size) h next t (x .0) (if-free (nextOf (walk n m) h) next e .1) (x .1) (need-even size) (omega (arith, l, need-body size)) r
 
   enlist-lands : (a : Head → Bool) (p t u v : ℕ) (h : Head) → In P N n h → (isValid (walk n m) t ≡ true → N → u < wordValues) → (N → v < wordValues) → Each P (storesOf (enlist m (walk n m) a p t u v h))
   unfolding enlist

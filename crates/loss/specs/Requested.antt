@@ -2,22 +2,22 @@
 -- laws of its stores want. By cases on the requests. Assumes nothing.
 use Prim.Native.Nat.{ℕ, _+_, _-_, _<_, _≤_}
 use mathlib.Core.Path.{_≡_, refl, sym, ap, subst, _∙_}
-use mathlib.Core.Bool.{Bool, true, false, cond, not}
+use mathlib.Core.Bool.{Bool, true, false, not}
 use mathlib.Core.Option.{Option, some, none}
 use mathlib.Core.List.{List, [], _∷_, _++_}
 use native.Mathlib.Omega.{arith}
-use lib.Dec.{eqb, leb, ltb}
-use borrow.Author.Tests.{leb-true, leb-false, ltb-false, eqb-false, not-false, not-true}
+use lib.Dec.{eqb, ltb}
+use borrow.Author.Tests.{leb-true, eqb-false, not-false, not-true}
 use Rattle.rules.specs.declared.Request.{Request}
 use Rattle.rules.specs.declared.Request.the-variants.{Create, Reserve, ReserveUncleared, Grow, Onactive, Onfree, Withdraw, Activate, Free, Check, Recover}
 use Rattle.rules.specs.Lists.{seek, Each}
 use Rattle.rules.specs.Pages.{clumpsAt}
-use Rattle.rules.specs.Words.{Mem, store, after}
+use Rattle.rules.specs.Words.{Mem, Store, store, after}
 use Rattle.rules.specs.Clumps.{Head, headerBytes, hasState, isFree, isWaiting, slots, valueAt, used, unmarked, freed, targetOf, withMark, slotsBy, entriesBy, RESERVED, walk}
 use Rattle.rules.specs.Sound.{isValid, allValid, touching, unsettled}
-use Rattle.rules.specs.Answers.{granted, storesOf, sizeZero, noRoom, wrongState, badTarget, ifSettled}
+use Rattle.rules.specs.Answers.{storesOf, sizeZero, wrongState, badTarget, ifSettled}
 use Rattle.rules.specs.Stores.{needOf, fits, reserveStores, freeAfter, activateStores, freeStores, recoverStores}
-use Rattle.rules.specs.Requests.{placed, reserve, enlarged, grown, grow, finder, openSlot, listed, enlist, withdrawn, withdraw, activate, free, verdict}
+use Rattle.rules.specs.Requests.{placed, reserve, grow, finder, openSlot, listed, enlist, withdrawn, withdraw, activate, free, verdict}
 use Rattle.rules.specs.Traces.{isCreate, beforeTurn, isThrough}
 use Rattle.laws.specs.Searches.{differ, and-both, each-right, seek-split}
 use Rattle.laws.specs.Lying.{valid-even}
@@ -27,6 +27,7 @@ use Rattle.laws.specs.Pools.{Sound}
 use Rattle.laws.specs.Needs.{need-even, need-clump, need-body}
 use Rattle.laws.specs.Bodies.{Off}
 use Rattle.laws.specs.Verdicts.{either-live}
+use Rattle.laws.specs.Granted.{Enlarges, enough, takes, Grows, fair-stores, fair-grow}
 use Rattle.loss.specs.Orders.{reserveOrder, growOrder, listOrder, recoverOrder}
 use Rattle.loss.specs.Held.{Held, Idle, sound-held}
 use Rattle.loss.specs.Fates.{fates, Owned, Rests}
@@ -122,25 +123,15 @@ module _ (n : ℕ) (m : Mem) (s : Sound n m) (u : unsettled (walk n m) ≡ false
             (not-true _ (either-live 0 2 h w)) (x .2) (needOf size) (need-even size) (omega (arith, need-body size)) r,
       )
 
-  enlarged-course : (o size : ℕ) (h : Head) → Amid n m h → isWaiting h ≡ true → h .nbytes - headerBytes < size → (c : Option Head) → freeAfter (walk n m) h ≡ c → Course n m never (storesOf (enlarged o (needOf size) h c))
-  unfolding growOrder
-  enlarged-course o size h a w l none e = none-made never
-  enlarged-course o size h a w l (some next) e =
-      behind-test (Course n m never) (none-made never) (ltb (h .nbytes + next .nbytes) (needOf size)) noRoom _
-      (λ z. enlarging size h next a w l e (ltb-false _ (needOf size) z) .2 .course)
-
   grow-course : (o size : ℕ) → Course n m never (storesOf (ifSettled n m (grow (walk n m) o size)))
-  unfolding grow grown
+  unfolding growOrder
   grow-course o size =
-      behind-settled (Course n m never) (none-made never) n m _
-      (λ y z. behind-test (Course n m never) (none-made never) (eqb size 0) sizeZero _
-      (λ b. behind-found (Course n m never) (none-made never) (finder (walk n m) o) _
-      (λ h e. behind-test (Course n m never) (none-made never) (not (isWaiting h)) wrongState _
-      (λ w. go h (amid n m _ h s u e) (not-false _ w) (leb size (h .nbytes - headerBytes)) refl))))
+      fair-stores (Grows n m o size) (Course n m never) (none-made never)
+      (λ p st g. go (g .clump) (amid n m _ (g .clump) s u (g .found)) (g .waits) st (g .stores)) (ifSettled n m (grow (walk n m) o size)) (fair-grow n m o size)
     where
-      go : (h : Head) → Amid n m h → isWaiting h ≡ true → (b : Bool) → leb size (h .nbytes - headerBytes) ≡ b → Course n m never (storesOf (cond b (granted o []) (enlarged o (needOf size) h (freeAfter (walk n m) h))))
-      go h a w true q = none-made never
-      go h a w false q = enlarged-course o size h a w (leb-false size _ q) (freeAfter (walk n m) h) refl
+      go : (h : Head) → Amid n m h → isWaiting h ≡ true → (st : List Store) → Enlarges n m size h st → Course n m never st
+      go h a w st (enough l) = none-made never
+      go h a w st (takes next l e r) = enlarging size h next a w l e r .2 .course
 
   -- the list of a clump
   listed-course : (h : Head) (o t r v : ℕ) → (isValid (walk n m) t ≡ true → targetOf r ≡ t) → Amid n m h → (e : Option ℕ) → openSlot m (slots (h .at)) ≡ e → Course n m never (storesOf (listed (isValid (walk n m) t) e o r v))

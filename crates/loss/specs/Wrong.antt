@@ -9,18 +9,18 @@ use mathlib.Core.List.{List, [], _∷_, _++_, map, reverse}
 use lib.ListN.{take}
 use Rattle.rules.specs.declared.Request.the-variants.{Recover}
 use Rattle.rules.specs.Lists.{seek}
-use Rattle.rules.specs.Words.{Store, store, after}
+use Rattle.rules.specs.Words.{Store, store}
 use Rattle.rules.specs.Clumps.{Head, head, stateAt, slots, valueAt, used, marked, unmarked, slotsBy, entriesBy, isPending, FREE, RESERVED, ACTIVATING, ACTIVE, FREEING, walk}
 use Rattle.rules.specs.Answers.{answerOf}
 use Rattle.rules.specs.Stores.{emptying, setState, restHeader, clearing, finishing, releasing, released, runs, joining, finishFreeing}
 use Rattle.rules.specs.Requests.{verdict}
 use Rattle.rules.specs.Reading.{Listed, listing}
-use Rattle.rules.specs.Cases.{Pool, poolOf, shape, under, longest, caseH, everyRule}
+use Rattle.rules.specs.Cases.{Pool, poolOf, shape, with, under, longest, caseH, everyRule}
 use Rattle.rules.specs.ReadingSamples.{plain, onFree, mixed}
 
 -- a pool after the first k stores of a list
 abbrev cutAt : ℕ → Pool → List Store → Pool
-cutAt k p st = (p .0, after (p .1) (take k st))
+cutAt k p st = with p (take k st)
 
 -- recovered: its answer, fault, clumps, the used entries of the first clump, and the words at 4096 and 4104
 abbrev Left : Type 0

@@ -7,7 +7,7 @@ use mathlib.Core.Path.{_≡_, refl}
 use mathlib.Core.Bool.{true, false, cond, _&&_}
 use lib.Dec.{leb, ltb}
 use mathlib.Core.List.{List, [], _∷_, map}
-use lib.ListN.{take, replicate}
+use lib.ListN.{replicate}
 use Rattle.rules.specs.declared.Answer.{Answer}
 use Rattle.rules.specs.declared.Request.{Request}
 use Rattle.rules.specs.declared.Request.the-variants.{Create, Reserve, Activate, Free, Recover}
@@ -16,7 +16,7 @@ use Rattle.rules.specs.Words.{Mem, Store, store, wordValues, le, puts, w
 use Rattle.rules.specs.Pages.{headerAt, signatureLow, signatureHigh, signatureHighAt, totalAt, paddingAt, clumpsAt, staticAt, rightLength, isPool}
 use Rattle.rules.specs.Clumps.{stateAt, marked, unmarked, targetOf, headsFrom, walk}
 use Rattle.rules.specs.Sound.{sizeBad, stateBad, inPlace, listBad, faultOf, clumpFault, secondFault, isValid, allValid, targetFault, judge, touching, unsettled}
-use Rattle.rules.specs.Answers.{Verdict, made, storesOf, widened, answerOf, ifSound, ifSettled, bytesOf}
+use Rattle.rules.specs.Answers.{Verdict, made, flushOf, widened, answerOf, ifSound, ifSettled, bytesOf}
 use Rattle.rules.specs.Stores.{createStores, needOf, clearedWords, reserveStores, finishActivating, finishFreeing, growStores, activateStores, dropStores, freeStores, releasing, runs, joining, recoverStores}
 use Rattle.rules.specs.Requests.{reserve, reserving, grown, grow, openSlot, enlist, withdraw, activate, free, verdict, answerFor}
 
@@ -48,9 +48,23 @@ poolOf cs more = let n = endFrom clumpsAt cs in (n, after (laid n cs) more)
 abbrev pub shape : Pool → List (ℕ × ℕ)
 shape p = map (λ h. (h .nbytes, h .state)) (walk (p .0) (p .1))
 
--- the pool after a request under a fuse
+-- the pool after stores, and after a request under a fuse
+abbrev pub with : Pool → List Store → Pool
+with p st = (p .0, after (p .1) st)
+
 abbrev pub under : ℕ → Pool → Request → Pool
-under fuse p q = (p .0, after (p .1) (take fuse (storesOf (verdict (p .0) (p .1) q))))
+under fuse p q = with p (made fuse (verdict (p .0) (p .1) q))
+
+-- recovery's stores by the rule of the clumps, and the pool after them
+abbrev pub recovering : Pool → List Store
+recovering p = recoverStores (p .1) (walk (p .0) (p .1))
+
+abbrev pub again : Pool → Pool
+again p = with p (recovering p)
+
+-- what to flush of stores
+abbrev pub rangeOf : List Store → ℕ × ℕ
+rangeOf st = let f = flushOf st in (f .from, f .to)
 
 -- "otherwise the fuse is the largest 64-bit number"
 abbrev pub longest : ℕ
@@ -65,7 +79,7 @@ abbrev pub Row : Type 0
 Row = ℕ × ℕ × ℕ × List (ℕ × ℕ)
 
 abbrev pub rowOf : ℕ → Pool → Verdict → Row
-rowOf fuse p v = let r = answerOf fuse v in (r .answer, r .place, r .stores, shape (p .0, after (p .1) (made fuse v)))
+rowOf fuse p v = let r = answerOf fuse v in (r .answer, r .place, r .stores, shape (with p (made fuse v)))
 
 abbrev pub row : ℕ → Pool → Request → Row
 row fuse p q = rowOf fuse p (verdict (p .0) (p .1) q)

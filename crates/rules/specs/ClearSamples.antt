@@ -8,10 +8,9 @@ use mathlib.Core.Bool.{Bool, true, false}
 use mathlib.Core.List.{List, [], _∷_, _++_, map}
 use lib.ListN.{replicate, take}
 use Rattle.rules.specs.Words.{Store, store, zeros, after}
-use Rattle.rules.specs.Clumps.{head, walk}
-use Rattle.rules.specs.Answers.{flushOf}
-use Rattle.rules.specs.Stores.{needOf, clearedWords, reserveStores, recoverStores}
-use Rattle.rules.specs.Cases.{everyRule, Pool, shape, headers, endFrom}
+use Rattle.rules.specs.Clumps.{head}
+use Rattle.rules.specs.Stores.{needOf, clearedWords, reserveStores}
+use Rattle.rules.specs.Cases.{everyRule, Pool, shape, with, again, rangeOf, headers, endFrom}
 use Rattle.rules.specs.ReadingSamples.{wordsIn}
 
 -- clumps in which every other word is 9, the words of lists too
@@ -29,12 +28,9 @@ tight = old ((192, 0) ∷ (128, 3) ∷ [])
 abbrev pub makes : Bool → Pool → List Store
 makes clears p = reserveStores clears (needOf 1) (head (p .1) 16384)
 
--- the pool after k of them, and recovered
+-- the pool after k of them
 abbrev pub cutAt : Bool → Pool → ℕ → Pool
-cutAt clears p k = (p .0, after (p .1) (take k (makes clears p)))
-
-abbrev pub again : Pool → Pool
-again p = (p .0, after (p .1) (recoverStores (p .1) (walk (p .0) (p .1))))
+cutAt clears p k = with p (take k (makes clears p))
 
 -- the clumps, the words from 16448 up to the next clump's header at a, and the first word of that one's body
 abbrev pub Seen : Type 0
@@ -50,7 +46,7 @@ upTo (suc k) = upTo k ++ (suc k ∷ [])
 
 -- what to flush after k stores
 abbrev pub flushAt : Bool → Pool → ℕ → ℕ × ℕ
-flushAt clears p k = let f = flushOf (take k (makes clears p)) in (f .from, f .to)
+flushAt clears p k = rangeOf (take k (makes clears p))
 
 abbrev pub ClearSamples : Type 0
 ClearSamples =

@@ -5,13 +5,13 @@ use Prim.Native.Nat.{ℕ}
 use mathlib.Core.Path.{_≡_, refl}
 use mathlib.Core.List.{List, [], _∷_, _++_, map}
 use lib.ListN.{replicate, take}
-use Rattle.rules.specs.Words.{Store, store, after}
+use Rattle.rules.specs.Words.{Store, store}
 use Rattle.rules.specs.Clumps.{walk}
-use Rattle.rules.specs.Answers.{Verdict, granted, refuse, storesOf, flushOf}
+use Rattle.rules.specs.Answers.{Verdict, granted, refuse, storesOf}
 use Rattle.rules.specs.Requests.{grow}
-use Rattle.rules.specs.Cases.{everyRule, Pool, shape, longest}
+use Rattle.rules.specs.Cases.{everyRule, Pool, shape, with, again, rangeOf, longest}
 use Rattle.rules.specs.ReadingSamples.{wordsIn}
-use Rattle.rules.specs.ClearSamples.{old, again}
+use Rattle.rules.specs.ClearSamples.{old}
 
 -- a live clump of 128 in a state, with its body at 16448; then FREE 320, with its body at 16576; then ACTIVE 128, with its body at 16896
 abbrev pub record128 : ℕ → Pool
@@ -22,18 +22,18 @@ abbrev pub grows : Pool → ℕ → ℕ → Verdict
 grows p o size = grow (walk (p .0) (p .1)) o size
 
 -- done, with these stores
-abbrev pub with : List Store → Verdict
-with st = granted 16448 st
+abbrev pub storing : List Store → Verdict
+storing st = granted 16448 st
 
 -- what grow of the first clump stores, the pool after k of these stores, and what to flush then
 abbrev pub made : Pool → ℕ → ℕ → List Store
 made p size k = take k (storesOf (grows p 16448 size))
 
 abbrev pub cutAt : Pool → ℕ → ℕ → Pool
-cutAt p size k = (p .0, after (p .1) (made p size k))
+cutAt p size k = with p (made p size k)
 
 abbrev pub flushAt : Pool → ℕ → ℕ → ℕ × ℕ
-flushAt p size k = let f = flushOf (made p size k) in (f .from, f .to)
+flushAt p size k = rangeOf (made p size k)
 
 -- the clumps, and the words of the first body, up to a
 abbrev pub seen : ℕ → Pool → List (ℕ × ℕ) × List ℕ
@@ -42,22 +42,22 @@ seen a p = (shape p, wordsIn (p .1) 16448 a)
 abbrev pub GrowSamples : Type 0
 GrowSamples =
     -- enough already: less than the body of 64, and all of it; RESERVED and ACTIVE alike
-    (map (λ s. map (grows (record128 s) 16448) (1 ∷ 63 ∷ 64 ∷ [])) (1 ∷ 3 ∷ []) ≡ replicate 2 (replicate 3 (with [])))
+    (map (λ s. map (grows (record128 s) 16448) (1 ∷ 63 ∷ 64 ∷ [])) (1 ∷ 3 ∷ []) ≡ replicate 2 (replicate 3 (storing [])))
     -- both together are 448: rests of 256, of 192 and of 128 are split off; a rest of 64 is not, and with none it is an exact fit
     × (map (λ s. map (grows (record128 s) 16448) (65 ∷ 129 ∷ 256 ∷ 257 ∷ 321 ∷ 384 ∷ [])) (1 ∷ 3 ∷ [])
     ≡ replicate 2
-    (with (store 16576 256 ∷ store 16584 0 ∷ store 16384 192 ∷ [])
-    ∷ with (store 16640 192 ∷ store 16648 0 ∷ store 16384 256 ∷ [])
-    ∷ with (store 16704 128 ∷ store 16712 0 ∷ store 16384 320 ∷ [])
-    ∷ with (store 16384 448 ∷ [])
-    ∷ with (store 16384 448 ∷ [])
-    ∷ with (store 16384 448 ∷ [])
+    (storing (store 16576 256 ∷ store 16584 0 ∷ store 16384 192 ∷ [])
+    ∷ storing (store 16640 192 ∷ store 16648 0 ∷ store 16384 256 ∷ [])
+    ∷ storing (store 16704 128 ∷ store 16712 0 ∷ store 16384 320 ∷ [])
+    ∷ storing (store 16384 448 ∷ [])
+    ∷ storing (store 16384 448 ∷ [])
+    ∷ storing (store 16384 448 ∷ [])
     ∷ []))
     -- answer 5: too small by 64, and by far, with a need past 64 bits too
     × (map (grows (record128 3) 16448) (385 ∷ 449 ∷ 18446744073709551552 ∷ 18446744073709551553 ∷ longest ∷ []) ≡ replicate 5 (refuse 5))
     -- the next clump missing, and ACTIVE, RESERVED, with room enough: for one byte more than the body
     × (map (grows (record128 3) 16896) (64 ∷ 65 ∷ []) ≡ granted 16896 [] ∷ refuse 5 ∷ [])
-    × (map (λ s. map (grows (old ((128, 1) ∷ (320, s) ∷ [])) 16448) (64 ∷ 65 ∷ [])) (1 ∷ 3 ∷ []) ≡ replicate 2 (with [] ∷ refuse 5 ∷ []))
+    × (map (λ s. map (grows (old ((128, 1) ∷ (320, s) ∷ [])) 16448) (64 ∷ 65 ∷ [])) (1 ∷ 3 ∷ []) ≡ replicate 2 (storing [] ∷ refuse 5 ∷ []))
     -- answer 4, before 6; answer 6 at a header, inside a body, behind the end
     × (map (λ o. grows (record128 3) o 0) (16448 ∷ 16512 ∷ []) ≡ replicate 2 (refuse 4))
     × (map (λ o. grows (record128 3) o longest) (0 ∷ 16384 ∷ 16456 ∷ 16512 ∷ 16960 ∷ longest ∷ []) ≡ replicate 6 (refuse 6))

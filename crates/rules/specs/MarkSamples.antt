@@ -9,13 +9,12 @@ use mathlib.Core.Option.{Option, some, none}
 use mathlib.Core.List.{List, [], _∷_, map}
 use lib.ListN.{replicate, take}
 use Rattle.rules.specs.declared.Request.the-variants.{Onactive, Onfree}
-use Rattle.rules.specs.Words.{Mem, Store, store, after}
+use Rattle.rules.specs.Words.{Mem, Store, store}
 use Rattle.rules.specs.Clumps.{Head, head, hasState, RESERVED, marked, unmarked, targetOf, walk}
 use Rattle.rules.specs.Sound.{Fault, judge}
 use Rattle.rules.specs.Answers.{Verdict, refused, granted, storesOf}
-use Rattle.rules.specs.Stores.{recoverStores}
 use Rattle.rules.specs.Requests.{enlist, withdraw, activate, free}
-use Rattle.rules.specs.Cases.{everyRule, Pool, poolOf, longest}
+use Rattle.rules.specs.Cases.{everyRule, Pool, poolOf, longest, with, recovering}
 use Rattle.rules.specs.Samples.{answered, listing}
 
 -- a clump of 128 in a state with three target words, of the values 1, 2 and 3, and a FREE one of 128
@@ -59,13 +58,6 @@ activating p = ruled p (λ m hs. activate m hs 16448)
 
 abbrev pub freeing : Pool → Verdict
 freeing p = ruled p (λ m hs. free m hs 16448)
-
--- the pool after stores, and recovery's stores
-abbrev pub with : Pool → List Store → Pool
-with p st = (p .0, after (p .1) st)
-
-abbrev pub recovering : Pool → List Store
-recovering p = recoverStores (p .1) (walk (p .0) (p .1))
 
 -- free of a RESERVED clump with three target words, cut after k stores and recovered: the words at 4096, 4104 and 4112
 abbrev pub freedAt : ℕ × ℕ × ℕ → ℕ → ℕ × ℕ × ℕ

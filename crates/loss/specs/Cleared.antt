@@ -18,7 +18,7 @@ use Rattle.rules.specs.Lists.{Each}
 use Rattle.rules.specs.Words.{Image, Store, store, Bytes, mem, after, carry}
 use Rattle.rules.specs.Clumps.{Head, bodyOf, endOf, stateAt, slots, leastClump, FREE, RESERVED}
 use Rattle.rules.specs.Answers.{done}
-use Rattle.rules.specs.Stores.{emptying, needOf, isSplit, partOf, clearedWords, reserveStores}
+use Rattle.rules.specs.Stores.{emptying, needOf, isSplit, clearedWords, reserveStores}
 use Rattle.rules.specs.Requests.{finder, verdictOn, storesFor, cut, finished, answerOn}
 use Rattle.rules.specs.Reading.{clumpsOf, within}
 use Rattle.rules.specs.Demands.{Accepted, Cleared, NotCleared}
@@ -36,7 +36,7 @@ use Rattle.loss.specs.Orders.{reserveOrder, endOrder}
 use Rattle.loss.specs.Redo.{Spares}
 use Rattle.loss.specs.Blanked.{Leaves, leaves-behind, Late, late-behind}
 use Rattle.loss.specs.Images.{cut-mem}
-use Rattle.loss.specs.Ending.{Blank, end-late, end-blank, end-spared}
+use Rattle.loss.specs.Ending.{partOf, Blank, end-late, end-blank, end-spared}
 use Rattle.loss.specs.Fresh.{lies, number, stores-are, memory-is, left, place-is, made, was-free}
 
 -- the sizes, which come first

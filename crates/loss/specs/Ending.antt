@@ -2,17 +2,21 @@
 -- the body is left blank in the first form, while no store reaches it in the second. By going along the run of zeros. Assumes nothing.
 use Prim.Native.Nat.{ℕ, _+_, _-_, _≤_}
 use mathlib.Core.Path.{_≡_}
-use mathlib.Core.Bool.{Bool, true, false}
+use mathlib.Core.Bool.{Bool, true, false, cond}
 use mathlib.Core.Logic.{inl, inr}
 use mathlib.Core.List.{[], _∷_}
 use native.Mathlib.Omega.{arith}
 use Rattle.rules.specs.Lists.{Each}
 use Rattle.rules.specs.Words.{Mem, store, zeros, allZero}
 use Rattle.rules.specs.Clumps.{headerBytes, stateAt, RESERVED}
-use Rattle.rules.specs.Stores.{clearedWords, clearing}
+use Rattle.rules.specs.Stores.{isSplit, clearedWords, clearing}
 use Rattle.laws.specs.Named.{Miss}
 use Rattle.loss.specs.Orders.{endOrder}
 use Rattle.loss.specs.Blanked.{Leaves, Late, late-one, late-behind, zeros-other, zeros-blank}
+
+-- so many bytes are taken of those that there are
+abbrev pub partOf : ℕ → ℕ → ℕ
+partOf need size = cond (isSplit need size) need size
 
 -- every word of the body is 0
 abbrev pub Blank : ℕ → ℕ → Mem → Type 0

@@ -12,12 +12,13 @@ use Rattle.rules.specs.Words.{Mem, store, upd, after}
 use Rattle.rules.specs.Pages.{unit}
 use Rattle.rules.specs.Clumps.{Head, headerBytes, bodyOf, endOf, stateAt, isFree, slots, waiting, leastClump, FREE, Tiles}
 use Rattle.rules.specs.Sound.{listBad, touching}
-use Rattle.rules.specs.Stores.{leastRest, isSplit, partOf, restHeader, growStores}
+use Rattle.rules.specs.Stores.{leastRest, isSplit, restHeader, growStores}
 use Rattle.word.specs.Memory.{upd-same, upd-other}
 use Rattle.laws.specs.Searches.{each-append, each-left, each-right}
 use Rattle.laws.specs.Walks.{Reads}
 use Rattle.laws.specs.Stored.{reads-right}
 use Rattle.laws.specs.Bodies.{Off}
+use Rattle.loss.specs.Ending.{partOf}
 use Rattle.loss.specs.Orders.{growOrder}
 use Rattle.loss.specs.Held.{Held, Idle}
 use Rattle.loss.specs.Fates.{Kept, fates, Owned, Rests}

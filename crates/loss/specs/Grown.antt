@@ -18,7 +18,7 @@ use Rattle.rules.specs.Words.{Image, Store, Bytes, mem, after, carry}
 use Rattle.rules.specs.Pages.{clumpsAt}
 use Rattle.rules.specs.Clumps.{Head, headerBytes, bodyOf, endOf, isLive, slots, used, Tiles, walk, nextOf}
 use Rattle.rules.specs.Answers.{storesOf}
-use Rattle.rules.specs.Stores.{needOf, isSplit, partOf, growStores, freeAfter}
+use Rattle.rules.specs.Stores.{needOf, isSplit, growStores, freeAfter}
 use Rattle.rules.specs.Requests.{Numbers, finder, verdictOn, storesFor, finished, answerOn}
 use Rattle.rules.specs.Reading.{clumpsOf}
 use Rattle.rules.specs.Demands.{Apart, Grew, Grown}
@@ -32,6 +32,7 @@ use Rattle.laws.specs.Headers.{each-slot, SameSlot, SameSlots, listing-same}
 use Rattle.laws.specs.Lying.{Lies, found-lies}
 use Rattle.laws.specs.Named.{Miss, carry-miss}
 use Rattle.laws.specs.Granted.{Enlarges, enough, takes, Grows, Granted, done-granted}
+use Rattle.loss.specs.Ending.{partOf}
 use Rattle.loss.specs.Orders.{growOrder}
 use Rattle.loss.specs.Redo.{Spares, after-spared}
 use Rattle.loss.specs.Held.{held-walk}

@@ -12,11 +12,12 @@ use Rattle.rules.specs.Words.{Mem, Store, store, upd, after, zeros, wordBytes}
 use Rattle.rules.specs.Pages.{unit}
 use Rattle.rules.specs.Clumps.{Head, headerBytes, endOf, stateAt, isFree, slots, leastClump, FREE, RESERVED}
 use Rattle.rules.specs.Sound.{touching}
-use Rattle.rules.specs.Stores.{emptying, leastRest, isSplit, partOf, clearedWords, reserveStores}
+use Rattle.rules.specs.Stores.{emptying, leastRest, isSplit, clearedWords, reserveStores}
 use Rattle.word.specs.Memory.{upd-same, upd-other}
 use Rattle.laws.specs.Searches.{each-right}
 use Rattle.laws.specs.Stored.{withState, reads-right}
 use Rattle.laws.specs.Clearing.{cleared-room}
+use Rattle.loss.specs.Ending.{partOf}
 use Rattle.loss.specs.Orders.{reserveOrder, endOrder}
 use Rattle.loss.specs.Fates.{Kept, fates-none, Beyond, Rests}
 use Rattle.loss.specs.Parts.{one-store, parted-one, replaced}

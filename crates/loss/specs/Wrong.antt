@@ -1,7 +1,7 @@
--- 01, "Plausible builds that are wrong", and eight more, two of them W4's, one W5's and two W6's: each order of stores that the laws refuse, on a small
--- pool, cut where it hurts, and what recovery then answers and leaves; of W5's, what the cut leaves, since recovery hides it. So the laws
--- are not about one order by chance: these orders are wrong. One table, proved by computing. The numbers are worked out by hand from the
--- paper's rules. Assumes nothing.
+-- 01, "Plausible builds that are wrong", and eight more, two of them W4's, one W5's and two W6's: each order of stores that the laws refuse,
+-- on a small pool, cut where it hurts, and what recovery then answers and leaves; of W5's, what the cut leaves, since recovery hides it. So
+-- the laws are not about one order by chance: these orders are wrong. One table, proved by computing. The numbers are worked out by hand
+-- from the paper's rules. Assumes nothing.
 use Prim.Native.Nat.{ℕ}
 use mathlib.Core.Path.{_≡_, refl}
 use mathlib.Core.Bool.{true}

@@ -1,6 +1,6 @@
--- The verdict on each of the eleven requests: its tests by rising number, then its stores (01, "What a request answers" and "Stores and the
--- fuse"; 02, W4 to W6); what the finder answers (02, W7); and what a request makes of an image. Total on any length, any words and any
--- numbers. Assumes nothing.
+-- The verdict on each of the eleven requests: its tests by rising number (of grow 5 comes last), then its stores (01, "What a request
+-- answers" and "Stores and the fuse"; 02, W4 to W6); what the finder answers (02, W7); and what a request makes of an image. Total on any
+-- length, any words and any numbers. Assumes nothing.
 use Prim.Native.Nat.{ℕ, _+_, _-_, _<_}
 use mathlib.Core.Path.{_≡_}
 use mathlib.Core.Bool.{Bool, true, false, cond, not}

@@ -42,16 +42,12 @@ needOf size = headerBytes + (size + (unit - 1)) / unit * unit
 abbrev pub fits : ℕ → Head → Bool
 fits need h = isFree h && leb need (h .nbytes)
 
--- "With a rest of 128 or more"
+-- "With a rest of 128 or more" so many bytes are split for a need
 abbrev pub leastRest : ℕ
 leastRest = 128
 
--- so many bytes are split for a need; "with a smaller rest the whole clump is used". So many are taken of them
 abbrev pub isSplit : ℕ → ℕ → Bool
 isSplit need size = leb leastRest (size - need)
-
-abbrev pub partOf : ℕ → ℕ → ℕ
-partOf need size = cond (isSplit need size) need size
 
 -- "nbytes and state FREE of the rest's header"
 abbrev pub restHeader : ℕ → ℕ → List Store

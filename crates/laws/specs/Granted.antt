@@ -98,7 +98,7 @@ Grants n m (Free o) p st = (h : Head) × (finder (walk n m) o ≡ some h) × (st
 Grants n m Check p st = st ≡ []
 Grants n m Recover p st = st ≡ recoverStores m (walk n m)
 
-fair-reserve : (clears : Bool) (n : ℕ) (m : Mem) (size : ℕ) → Fair (Reserves clears n m size) (ifSettled n m (reserve clears (walk n m) size))
+pub fair-reserve : (clears : Bool) (n : ℕ) (m : Mem) (size : ℕ) → Fair (Reserves clears n m size) (ifSettled n m (reserve clears (walk n m) size))
 unfolding reserve
 fair-reserve clears n m size =
     fair-settled (Reserves clears n m size) n m _

@@ -2,12 +2,11 @@
 -- carried out names; create's apart. What holds of every such store holds of each store of the request. By cases on the requests.
 -- Assumes nothing.
 use Prim.Native.Nat.{ℕ, _<_}
-use mathlib.Core.Path.{_≡_, refl, ap, _∙_}
+use mathlib.Core.Path.{_≡_, refl, sym, ap, subst, _∙_}
 use mathlib.Core.Bool.{Bool, true, false, not, cond}
 use mathlib.Core.Option.{Option, some, none}
 use mathlib.Core.List.{List, [], _∷_, _++_, map}
 use native.Mathlib.Omega.{arith}
-use lib.Dec.{eqb}
 use borrow.Author.Tests.{eqb-true, leb-true, not-false}
 use Rattle.rules.specs.declared.Request.{Request}
 use Rattle.rules.specs.declared.Request.the-variants.{Create, Reserve, ReserveUncleared, Grow, Onactive, Onfree, Withdraw, Activate, Free, Check, Recover}
@@ -16,9 +15,9 @@ use Rattle.rules.specs.Words.{Mem, Store, store, wordValues}
 use Rattle.rules.specs.Pages.{clumpsAt, rightLength}
 use Rattle.rules.specs.Clumps.{Head, endOf, isFree, isWaiting, isPending, slots, Choice, used, marked, unmarked, withMark, due, freed, slotsBy, entriesBy, hasState, FREE, RESERVED, ACTIVATING, ACTIVE, FREEING, walk, nextOf, beforeOf}
 use Rattle.rules.specs.Sound.{isValid, allValid}
-use Rattle.rules.specs.Answers.{Verdict, storesOf, ifSettled, notPool, sizeZero, wrongState, badTarget}
-use Rattle.rules.specs.Stores.{setState, createStores, needOf, fits, finishActivating, finishFreeing, activateStores, hasMarked, dropStores, emptying, freeAfter, freeBefore, joinBoth, freeStores, finishing, releasing, released, runs, joining, recoverStores}
-use Rattle.rules.specs.Requests.{Numbers, placed, reserve, grow, finder, found, openSlot, enlist, withdraw, activate, free, verdict}
+use Rattle.rules.specs.Answers.{Verdict, storesOf, ifSettled, notPool, wrongState, badTarget}
+use Rattle.rules.specs.Stores.{setState, createStores, needOf, finishActivating, finishFreeing, activateStores, hasMarked, dropStores, emptying, freeAfter, freeBefore, joinBoth, freeStores, finishing, releasing, released, runs, joining, recoverStores}
+use Rattle.rules.specs.Requests.{Numbers, reserve, grow, finder, found, openSlot, enlist, withdraw, activate, free, verdict}
 use Rattle.rules.specs.Traces.{isCreate}
 use Rattle.rules.specs.Demands.{entriesOf, carriedOut}
 use Rattle.laws.specs.Searches.{those-each, and-both, seek-each, seek-split, each-append, each-map, each-both, map-each}
@@ -31,7 +30,7 @@ use Rattle.laws.specs.Pools.{Sound, pool-length, pool-tiles}
 use Rattle.laws.specs.Lying.{Lies, all-lie, valid-even}
 use Rattle.laws.specs.Spans.{runs-tile, runs-first}
 use Rattle.laws.specs.Choices.{mark-word, open-each}
-use Rattle.laws.specs.Granted.{Enlarges, enough, takes, Grows, fair-stores, fair-grow}
+use Rattle.laws.specs.Granted.{Reserves, Enlarges, enough, takes, Grows, fair-stores, fair-reserve, fair-grow}
 use Rattle.laws.specs.Taking.{Takes, Slot, slots-in, chosen-in, In, state-lands, size-lands, emptying-lands, reserve-lands, grow-lands, listed-lands, withdrawn-lands, activated-lands, freed-lands, both-lands, joining-lands}
 
 -- on a pool whose clumps take the stores
@@ -47,17 +46,14 @@ module _ (P : Store → Type 0) (N : Type 0) (n : ℕ) (m : Mem) (heads : Sound 
   Carries c h = allValid c m (walk n m) h ≡ true → Each P (entriesBy c m (h .at))
 
   -- each request, from the clump that was found on
-  placed-lands : (clears : Bool) → Sound n m → (size : ℕ) (o : Option Head) → seek (fits (needOf size)) (walk n m) ≡ o → Each P (storesOf (placed clears (needOf size) o))
-  placed-lands clears s size none e = tt
-  placed-lands clears s size (some h) e =
-      let x = and-both (isFree h) _ (seek-split _ (walk n m) h e .passes) in
-      reserve-lands P N n clears (needOf size) h (found-in s _ h e) (x .0) (need-even size) (need-least size) (leb-true (needOf size) (h .nbytes) (x .1))
-
   placing-lands : (clears : Bool) (size : ℕ) → Each P (storesOf (ifSettled n m (reserve clears (walk n m) size)))
-  unfolding reserve
   placing-lands clears size =
-      behind-settled (Each P) tt n m _
-      (λ s u. behind-test (Each P) tt (eqb size 0) sizeZero _ (λ z. placed-lands clears s size (seek (fits (needOf size)) (walk n m)) refl))
+      fair-stores (Reserves clears n m size) (Each P) tt
+      (λ p st g. let h = g .clump in
+      let x = and-both (isFree h) _ (seek-split _ (walk n m) h (g .found) .passes) in
+      subst (Each P) (sym (g .stores))
+      (reserve-lands P N n clears (needOf size) h (found-in (g .sound) _ h (g .found)) (x .0) (need-even size) (need-least size) (leb-true (needOf size) (h .nbytes) (x .1))))
+      (ifSettled n m (reserve clears (walk n m) size)) (fair-reserve clears n m size)
 
   -- the next clump of one that was found, if it is FREE
   next-in : Sound n m → (h next : Head) → freeAfter (walk n m) h ≡ some next → In P N n next × (next .at ≡ endOf h)

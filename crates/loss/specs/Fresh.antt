@@ -35,6 +35,10 @@ use Rattle.loss.specs.Requested.{Amid, amid, placing}
 use Rattle.loss.specs.Fates.{fates, Owned}
 use Rattle.loss.specs.Reserving.{Reserved}
 
+-- above a clump none begins before it ends
+pub begin-above : (n : ℕ) (p : List Head) (h : Head) (q : List Head) → Tiles clumpsAt (p ++ (h ∷ q)) n → Each (λ k. endOf h ≤ k .at) q
+begin-above n p h q t = each-map (λ k. (endOf h ≤ k .at) × (k .at < n) × (endOf k ≤ n)) (λ k. endOf h ≤ k .at) q (λ k l. l .0) (tiles-in (endOf h) n q (parted-one n p h q t .upper))
+
 -- the clump j that a request makes at the place of the clump h
 module _ (n : ℕ) (p : List Head) (h : Head) (q : List Head) (j : Head) (r : List Head) (t : Tiles clumpsAt (p ++ (h ∷ q)) n) (place : j .at ≡ h .at) where
   parts : Parted n p (h .at) (h ∷ []) (endOf h) q
@@ -44,12 +48,13 @@ module _ (n : ℕ) (p : List Head) (h : Head) (q : List Head) (j : Head) (r : Li
   pub found-there : finder (p ++ (j ∷ r)) (bodyOf h) ≡ some j
   found-there = rw (← place) (tiles-found clumpsAt p j r (subst (Tiles clumpsAt p) (sym place) (parts .lower)))
 
-  -- and shares no byte with those below; above h none begins before it ends
-  pub apart-below : Each (Apart j) p
+  -- and shares no byte with those below
+  apart-below : Each (Apart j) p
   apart-below = each-map (λ k. (clumpsAt ≤ k .at) × (k .at < h .at) × (endOf k ≤ h .at)) (Apart j) p (λ k l. inr (omega (arith, l .2))) (tiles-in clumpsAt (h .at) p (parts .lower))
 
-  pub begin-above : Each (λ k. endOf h ≤ k .at) q
-  begin-above = each-map (λ k. (endOf h ≤ k .at) × (k .at < n) × (endOf k ≤ n)) (λ k. endOf h ≤ k .at) q (λ k l. l .0) (tiles-in (endOf h) n q (parts .upper))
+  -- so what holds of each clump that is apart from it holds of all, if it does of h and of those above
+  pub around : (Q : Head → Type 0) → ((k : Head) → Apart j k → Q k) → Q h → Each Q q → Each Q (p ++ (h ∷ q))
+  around Q f own up = each-append Q p (h ∷ q) (each-map (Apart j) Q p f apart-below) (own, up)
 
 -- the number of either form
 number-of : (clears : Bool) (size : ℕ) → size < wordValues → Numbers (reserving clears size)
@@ -116,7 +121,6 @@ fresh img clears size fuse b d =
       x .state,
       omega (arith, x .room, need-body size),
       subst (Each Q) (sym (y .whole))
-          (each-append Q (y .below) (k ∷ y .above)
-          (each-map (Apart (x .clump)) Q (y .below) (λ j z e. z) (apart-below (length img) (y .below) k (y .above) (x .clump) (x .above) (y .held .tiles) (x .place)))
-          ((λ e. differ f (not-true _ e)), each-map (λ j. endOf k ≤ j .at) Q (y .above) (λ j l e. inl (omega (arith, l, x .place, x .less))) (begin-above (length img) (y .below) k (y .above) (x .clump) (x .above) (y .held .tiles) (x .place)))),
+          (around (length img) (y .below) k (y .above) (x .clump) (x .above) (y .held .tiles) (x .place) Q (λ j z e. z) (λ e. differ f (not-true _ e))
+          (each-map (λ j. endOf k ≤ j .at) Q (y .above) (λ j l e. inl (omega (arith, l, x .place, x .less))) (begin-above (length img) (y .below) k (y .above) (y .held .tiles)))),
     )

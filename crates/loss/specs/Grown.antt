@@ -6,7 +6,7 @@ use mathlib.Core.Path.{_≡_, refl, sym, ap, ap₂, subst, _∙_}
 use mathlib.Core.Bool.{Bool, true, false}
 use mathlib.Core.Logic.{inl, inr}
 use mathlib.Core.Option.{some}
-use mathlib.Core.List.{List, [], _∷_, _++_}
+use mathlib.Core.List.{List, [], _∷_, _++_, append-assoc}
 use native.Mathlib.Omega.{arith}
 use lib.ListN.{length}
 use borrow.Author.Tests.{eqb-true, not-true}
@@ -23,8 +23,7 @@ use Rattle.rules.specs.Requests.{Numbers, finder, verdictOn, storesFor, finishe
 use Rattle.rules.specs.Reading.{clumpsOf}
 use Rattle.rules.specs.Demands.{Apart, Grew, Grown}
 use Rattle.word.specs.Memory.{length-carry}
-use Rattle.laws.specs.Searches.{differ, each-map, each-append, seek-split}
-use Rattle.laws.specs.Tilings.{tiles-in}
+use Rattle.laws.specs.Searches.{differ, each-map, seek-split}
 use Rattle.laws.specs.Bodies.{inside}
 use Rattle.laws.specs.Neighbours.{if-free}
 use Rattle.laws.specs.Needs.{need-body}
@@ -36,10 +35,9 @@ use Rattle.loss.specs.Ending.{partOf}
 use Rattle.loss.specs.Orders.{growOrder}
 use Rattle.loss.specs.Redo.{Spares, after-spared}
 use Rattle.loss.specs.Held.{held-walk}
-use Rattle.loss.specs.Parts.{parted}
 use Rattle.loss.specs.Images.{finished-mem}
 use Rattle.loss.specs.Growing.{Enlarged}
-use Rattle.loss.specs.Fresh.{found-there, apart-below, begin-above}
+use Rattle.loss.specs.Fresh.{begin-above, found-there, around}
 use Rattle.loss.specs.Requested.{Amid, amid, enlarging}
 
 -- where its stores go: to no byte of the body that it leaves, and to no word of the list
@@ -91,12 +89,7 @@ module _ (img : Image) (offset size fuse : ℕ) (b : Bytes img) (g : Granted (Gr
   others : (j : Head) → j .at ≡ h .at → Each (Others j) (a .above) → Each (Others j) (clumpsOf img)
   others j e f =
       subst (Each (Others j)) (sym (a .whole))
-      (each-append (Others j) (a .below) (h ∷ a .above)
-      (each-map (Apart j) (Others j) (a .below) (λ k z i d. z) (apart-below (length img) (a .below) h (a .above) j [] (a .held .tiles) e))
-      ((λ i d. absurd (d refl)), f))
-
-  above : Each (λ k. endOf h ≤ k .at) (a .above)
-  above = begin-above (length img) (a .below) h (a .above) h [] (a .held .tiles) refl
+      (around (length img) (a .below) h (a .above) j [] (a .held .tiles) e (Others j) (λ k z i d. z) (λ i d. absurd (d refl)) f)
 
   -- the body was enough
   stayed : size ≤ h .nbytes - headerBytes → finished img q ≡ img → Grew img (finished img q) offset size
@@ -112,7 +105,7 @@ module _ (img : Image) (offset size fuse : ℕ) (b : Bytes img) (g : Granted (Gr
         enough = omega (arith, lies .least);
         longer = omega arith;
         bytes = λ i w. refl;
-        apart = others h refl (each-map (λ k. endOf h ≤ k .at) (Others h) (a .above) (λ k z i d. inl z) above);
+        apart = others h refl (each-map (λ k. endOf h ≤ k .at) (Others h) (a .above) (λ k z i d. inl z) (begin-above (length img) (a .below) h (a .above) (a .held .tiles)));
       })
 
   -- the FREE clump behind was taken
@@ -126,11 +119,11 @@ module _ (img : Image) (offset size fuse : ℕ) (b : Bytes img) (g : Granted (Gr
     next-lies : Lies (length img) next
     next-lies = found-lies (length img) (mem img) (g .grants .sound) _ next (if-free (nextOf (clumpsOf img) h) next behind .0)
 
+    at-next : next .at ≡ endOf h
+    at-next = eqb-true (next .at) (endOf h) (seek-split _ (clumpsOf img) next (if-free (nextOf (clumpsOf img) h) next behind .0) .passes)
+
     number : Numbers q
     number = (omega (arith, at-offset, lies .least, lies .room, lies .small), omega (arith, need-body size, reach, at-next, next-lies .room, next-lies .small))
-      where
-        at-next : next .at ≡ endOf h
-        at-next = eqb-true (next .at) (endOf h) (seek-split _ (clumpsOf img) next (if-free (nextOf (clumpsOf img) h) next behind .0) .passes)
 
     memory-is : mem (finished img q) ≡ after (mem img) (growOrder (needOf size) h next)
     memory-is = finished-mem img q b number ∙ ap (after (mem img)) stores-are
@@ -165,13 +158,12 @@ module _ (img : Image) (offset size fuse : ℕ) (b : Bytes img) (g : Granted (Gr
               ((λ i d. differ (if-free (nextOf (clumpsOf img) h) next behind .1) (not-true _ i)), beyond));
         }
       where
+        -- those above the FREE clump
         beyond : Each (Others (left .2 .clump)) (left .0)
         beyond =
-            let d = parted (length img) (a .below) (h ∷ next ∷ []) (left .0) (subst (λ (l : List Head). Tiles clumpsAt (a .below ++ (h ∷ l)) (length img)) (left .1) (a .held .tiles)) in
-            let i = d .2 .part .0 .here in
-            let e = d .2 .part .1 .1 in
-            each-map (λ k. (d .1 ≤ k .at) × (k .at < length img) × (endOf k ≤ length img)) (Others (left .2 .clump)) (left .0)
-            (λ k l z y. inl (omega (arith, l .0, left .2 .place, left .2 .less))) (tiles-in (d .1) (length img) (left .0) (d .2 .upper))
+            let t = subst (λ (l : List Head). Tiles clumpsAt (a .below ++ (h ∷ l)) (length img)) (left .1) (a .held .tiles) in
+            each-map (λ k. endOf next ≤ k .at) (Others (left .2 .clump)) (left .0) (λ k l z y. inl (omega (arith, l, at-next, left .2 .place, left .2 .less)))
+            (begin-above (length img) (a .below ++ (h ∷ [])) next (left .0) (subst (λ (l : List Head). Tiles clumpsAt l (length img)) (sym (append-assoc (a .below) (h ∷ []) (next ∷ left .0))) t))
 
 pub grown : Grown
 unfolding carry growOrder

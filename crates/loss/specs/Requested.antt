@@ -6,8 +6,8 @@ use mathlib.Core.Bool.{Bool, true, false, not}
 use mathlib.Core.Option.{Option, some, none}
 use mathlib.Core.List.{List, [], _∷_, _++_}
 use native.Mathlib.Omega.{arith}
-use lib.Dec.{eqb, ltb}
-use borrow.Author.Tests.{leb-true, eqb-false, not-false, not-true}
+use lib.Dec.{ltb}
+use borrow.Author.Tests.{leb-true, not-false, not-true}
 use Rattle.rules.specs.declared.Request.{Request}
 use Rattle.rules.specs.declared.Request.the-variants.{Create, Reserve, ReserveUncleared, Grow, Onactive, Onfree, Withdraw, Activate, Free, Check, Recover}
 use Rattle.rules.specs.Lists.{seek, Each}
@@ -15,9 +15,9 @@ use Rattle.rules.specs.Pages.{clumpsAt}
 use Rattle.rules.specs.Words.{Mem, Store, store, after}
 use Rattle.rules.specs.Clumps.{Head, headerBytes, hasState, isFree, isWaiting, slots, valueAt, used, unmarked, freed, targetOf, withMark, slotsBy, entriesBy, RESERVED, walk}
 use Rattle.rules.specs.Sound.{isValid, allValid, touching, unsettled}
-use Rattle.rules.specs.Answers.{storesOf, sizeZero, wrongState, badTarget, ifSettled}
+use Rattle.rules.specs.Answers.{storesOf, wrongState, badTarget, ifSettled}
 use Rattle.rules.specs.Stores.{needOf, fits, reserveStores, freeAfter, activateStores, freeStores, recoverStores}
-use Rattle.rules.specs.Requests.{placed, reserve, grow, finder, openSlot, listed, enlist, withdrawn, withdraw, activate, free, verdict}
+use Rattle.rules.specs.Requests.{reserve, grow, finder, openSlot, listed, enlist, withdrawn, withdraw, activate, free, verdict}
 use Rattle.rules.specs.Traces.{isCreate, beforeTurn, isThrough}
 use Rattle.laws.specs.Searches.{differ, and-both, each-right, seek-split}
 use Rattle.laws.specs.Lying.{valid-even}
@@ -27,7 +27,7 @@ use Rattle.laws.specs.Pools.{Sound}
 use Rattle.laws.specs.Needs.{need-even, need-clump, need-body}
 use Rattle.laws.specs.Bodies.{Off}
 use Rattle.laws.specs.Verdicts.{either-live}
-use Rattle.laws.specs.Granted.{Enlarges, enough, takes, Grows, fair-stores, fair-grow}
+use Rattle.laws.specs.Granted.{Reserves, Enlarges, enough, takes, Grows, fair-stores, fair-reserve, fair-grow}
 use Rattle.loss.specs.Orders.{reserveOrder, growOrder, listOrder, recoverOrder}
 use Rattle.loss.specs.Held.{Held, Idle, sound-held}
 use Rattle.loss.specs.Fates.{fates, Owned, Rests}
@@ -88,19 +88,16 @@ module _ (n : ℕ) (m : Mem) (s : Sound n m) (u : unsettled (walk n m) ≡ false
       (leb-true (needOf size) (h .nbytes) (f .1))
       (at-rest n m h a)
 
-  placed-course : (clears : Bool) (size : ℕ) → (size ≡ 0 → ⊥) → (o : Option Head) → seek (fits (needOf size)) (walk n m) ≡ o → Course n m never (storesOf (placed clears (needOf size) o))
-  unfolding reserveOrder
-  placed-course clears size z none e = none-made never
-  placed-course clears size z (some h) e =
-      let a = amid n m (fits (needOf size)) h s u e in
-      let x = placing clears size z h e a in
-      course-comes n _ m m never (reserveStores clears (needOf size) h) (a .below ++ (x .clump ∷ x .above)) (x .comes) (x .calm (a .apart))
-
   reserve-course : (clears : Bool) (size : ℕ) → Course n m never (storesOf (ifSettled n m (reserve clears (walk n m) size)))
-  unfolding reserve
+  unfolding reserveOrder
   reserve-course clears size =
-      behind-settled (Course n m never) (none-made never) n m _
-      (λ y z. behind-test (Course n m never) (none-made never) (eqb size 0) sizeZero _ (λ e. placed-course clears size (eqb-false size 0 e) (seek (fits (needOf size)) (walk n m)) refl))
+      fair-stores (Reserves clears n m size) (Course n m never) (none-made never)
+      (λ p st g. let h = g .clump in
+      let a = amid n m (fits (needOf size)) h s u (g .found) in
+      let x = placing clears size (g .asked) h (g .found) a in
+      subst (Course n m never) (sym (g .stores))
+      (course-comes n _ m m never (reserveStores clears (needOf size) h) (a .below ++ (x .clump ∷ x .above)) (x .comes) (x .calm (a .apart))))
+      (ifSettled n m (reserve clears (walk n m) size)) (fair-reserve clears n m size)
 
   -- the FREE clump that grow takes
   pub enlarging :

@@ -13,7 +13,7 @@ use Rattle.rules.specs.Cases.{everyRule, Pool, shape, with, again, range
 use Rattle.rules.specs.ReadingSamples.{wordsIn}
 use Rattle.rules.specs.ClearSamples.{old}
 
--- a live clump of 128 in a state, with its body at 16448; then FREE 320, with its body at 16576; then ACTIVE 128, with its body at 16896
+-- a clump of 128 in a state, with its body at 16448; then FREE 320, with its body at 16576; then ACTIVE 128, with its body at 16896
 abbrev pub record128 : ℕ → Pool
 record128 s = old ((128, s) ∷ (320, 0) ∷ (128, 3) ∷ [])
 

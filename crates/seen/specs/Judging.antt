@@ -11,7 +11,7 @@ use borrow.Author.Tests.{lt-ltb, le-ltb, ltb-false, eq-eqb, ne-eqb}
 use Rattle.rules.specs.Lists.{those, any, all}
 use Rattle.rules.specs.Words.{Mem}
 use Rattle.rules.specs.Pages.{unit}
-use Rattle.rules.specs.Clumps.{Head, hasState, endOf, leastClump, ACTIVATING, FREEING, isWaiting, slots, Choice, used, marked, nothing, slotsBy, targetAt}
+use Rattle.rules.specs.Clumps.{Head, hasState, endOf, leastClump, RESERVED, ACTIVATING, ACTIVE, FREEING, isWaiting, slots, Choice, used, marked, nothing, slotsBy, targetAt}
 use Rattle.rules.specs.Sound.{sizeBad, stateBad, inPlace, listBad, faultOf}
 use Rattle.word.specs.Tests.{ltb-same}
 use Rattle.laws.specs.Walks.{size-good}
@@ -116,3 +116,7 @@ bad-held n m h = go (isWaiting h) (hasState ACTIVATING h)
 pub fault-held : (n : ℕ) (m : Mem) (h : Head) (l : List (List ℕ)) → l ≡ listAt m (h .at) → faultIn n l h ≡ faultOf n m h
 unfolding faultIn faultOf
 fault-held n m h l e = rw (e, bad-held n m h)
+
+-- whether the list of a clump waits, by the state that was read
+pub waits-is : (state s : ℕ) (w : Bool) → s ≡ state → w ≡ (eqb s RESERVED || eqb s ACTIVE) → (eqb state RESERVED || eqb state ACTIVE) ≡ w
+waits-is state s w e f = rw (← e) (sym f)

@@ -3,6 +3,7 @@ use native.Mathlib.Omega.{arith}
 use mathlib.Core.Path.{sym, _∙_}
 use borrow.Author.Tests.{leb-true, leb-false, not-true, not-false}
 use Rattle.enlarge.specs.Enlarging.{next-asked, both-room, both-fit, state-acts, enough-acts, none-acts, taken-acts}
+use Rattle.seen.specs.Judging.{waits-is}
 use borrow.Author.Needs.{needs}
 use Rattle.enlarge.proofs.grow_at.Statement.{statement}
 use Rattle.enlarge.proofs.grow_at.Tie as tie
@@ -20,7 +21,7 @@ same-length : tie.Need-same-length
 same-length c = search needs
 
 returns : tie.Need-returns
-returns c = rw (c .refusal .ensures) (state-acts (c .before .before .before .before .before .before .pre) _ (c .before .before .before .read .ensures .0) _ (let x = c .before .before .before .read .ensures .1 in let y = not-true (c .before .before .waits .result) (c .before .if1 .taken) in cc))
+returns c = rw (c .refusal .ensures) (state-acts (c .before .before .before .before .before .before .pre) _ (c .before .before .before .read .ensures .0) _ (waits-is _ _ _ (c .before .before .before .read .ensures .1) (c .before .before .waits .ensures) ∙ not-true _ (c .before .if1 .taken)))
 
 sub-if2 : tie.Need-sub-if2
 sub-if2 c = search needs
@@ -32,7 +33,7 @@ same-length-2 : tie.Need-same-length-2
 same-length-2 c = search needs
 
 returns-2 : tie.Need-returns-2
-returns-2 c = rw (c .unstored .ensures) (enough-acts (c .before .before .before .before .before .before .before .before .pre) _ (c .before .before .before .before .before .read .ensures .0) _ (let x = c .before .before .before .before .before .read .ensures .1 in let y = not-false (c .before .before .before .before .waits .result) (c .before .before .before .if1 .left) in cc) (c .before .if2 .taken))
+returns-2 c = rw (c .unstored .ensures) (enough-acts (c .before .before .before .before .before .before .before .before .pre) _ (c .before .before .before .before .before .read .ensures .0) _ (waits-is _ _ _ (c .before .before .before .before .before .read .ensures .1) (c .before .before .before .before .waits .ensures) ∙ not-false _ (c .before .before .before .if1 .left)) (c .before .if2 .taken))
 
 add-free-bytes : tie.Need-add-free-bytes
 add-free-bytes c = search needs
@@ -53,7 +54,7 @@ same-length-3 : tie.Need-same-length-3
 same-length-3 c = search needs
 
 returns-3 : tie.Need-returns-3
-returns-3 c = rw (c .refusal2 .ensures) (none-acts (c .before .before .before .before .before .before .before .before .before .before .before .before .before .pre) _ (c .before .before .before .before .before .before .before .before .before .before .read .ensures .0) _ (let x = c .before .before .before .before .before .before .before .before .before .before .read .ensures .1 in let y = not-false (c .before .before .before .before .before .before .before .before .before .waits .result) (c .before .before .before .before .before .before .before .before .if1 .left) in cc) (c .before .before .before .before .before .before .if2 .left) _ (c .before .before .before .before .free-bytes .ensures) (leb-false _ _ (sym (c .before .before .room .ensures) ∙ not-true _ (c .before .if3 .taken))))
+returns-3 c = rw (c .refusal2 .ensures) (none-acts (c .before .before .before .before .before .before .before .before .before .before .before .before .before .pre) _ (c .before .before .before .before .before .before .before .before .before .before .read .ensures .0) _ (waits-is _ _ _ (c .before .before .before .before .before .before .before .before .before .before .read .ensures .1) (c .before .before .before .before .before .before .before .before .before .waits .ensures) ∙ not-false _ (c .before .before .before .before .before .before .before .before .if1 .left)) (c .before .before .before .before .before .before .if2 .left) _ (c .before .before .before .before .free-bytes .ensures) (leb-false _ _ (sym (c .before .before .room .ensures) ∙ not-true _ (c .before .if3 .taken))))
 
 extend-requires : tie.Need-extend-requires
 extend-requires c κs = both-fit (c .before .before .before .before .before .before .before .before .before .before .before .before .before .pre) _ (c .before .before .before .before .before .before .before .before .before .before .read .ensures .0) _ (c .before .before .before .before .free-bytes .ensures) (leb-true _ _ (sym (c .before .before .room .ensures) ∙ not-false _ (c .before .if3 .left)))
@@ -62,7 +63,7 @@ same-length-4 : tie.Need-same-length-4
 same-length-4 c = search needs
 
 returns-4 : tie.Need-returns-4
-returns-4 c = taken-acts (c .before .before .before .before .before .before .before .before .before .before .before .before .before .before .before .before .pre) _ (c .before .before .before .before .before .before .before .before .before .before .before .before .before .read .ensures .0) _ (let x = c .before .before .before .before .before .before .before .before .before .before .before .before .before .read .ensures .1 in let y = not-false (c .before .before .before .before .before .before .before .before .before .before .before .before .waits .result) (c .before .before .before .before .before .before .before .before .before .before .before .if1 .left) in cc) (c .before .before .before .before .before .before .before .before .before .if2 .left) _ (c .before .before .before .before .before .before .before .free-bytes .ensures) (leb-true _ _ (sym (c .before .before .before .before .before .room .ensures) ∙ not-false _ (c .before .before .before .before .if3 .left))) (c .before .before .extend .ensures)
+returns-4 c = taken-acts (c .before .before .before .before .before .before .before .before .before .before .before .before .before .before .before .before .pre) _ (c .before .before .before .before .before .before .before .before .before .before .before .before .before .read .ensures .0) _ (waits-is _ _ _ (c .before .before .before .before .before .before .before .before .before .before .before .before .before .read .ensures .1) (c .before .before .before .before .before .before .before .before .before .before .before .before .waits .ensures) ∙ not-false _ (c .before .before .before .before .before .before .before .before .before .before .before .if1 .left)) (c .before .before .before .before .before .before .before .before .before .if2 .left) _ (c .before .before .before .before .before .before .before .free-bytes .ensures) (leb-true _ _ (sym (c .before .before .before .before .before .room .ensures) ∙ not-false _ (c .before .before .before .before .if3 .left))) (c .before .before .extend .ensures)
 
 pub grow-at-spec : {M : Type 1} → statement M
 grow-at-spec =

@@ -6,6 +6,7 @@ use Rattle.rules.specs.Clumps.{head}
 use Rattle.rules.specs.Reading.{clumpsOf}
 use Rattle.steps.specs.Acts.{acts-same, acts-refused}
 use Rattle.release.specs.Releases.{may-drop, free-state, free-bad, free-done}
+use Rattle.seen.specs.Judging.{waits-is}
 use borrow.Author.Needs.{needs}
 use Rattle.release.proofs.free_at.Statement.{statement}
 use Rattle.release.proofs.free_at.Tie as tie
@@ -23,7 +24,7 @@ same-length : tie.Need-same-length
 same-length c = search needs
 
 returns : tie.Need-returns
-returns c = rw (c .refusal .ensures) (acts-same _ _ (free-state (mem (c .before .before .before .before .before .before .args .img .now)) (clumpsOf (c .before .before .before .before .before .before .args .img .now)) (c .before .before .before .before .before .before .args .offset) (head (mem (c .before .before .before .before .before .before .args .img .now)) (c .before .before .before .before .before .before .args .h)) (let x = c .before .before .before .read .ensures .1 in let y = not-true (c .before .before .waits .result) (c .before .if1 .taken) in cc)) (acts-refused _ _ _ _ _))
+returns c = rw (c .refusal .ensures) (acts-same _ _ (free-state (mem (c .before .before .before .before .before .before .args .img .now)) (clumpsOf (c .before .before .before .before .before .before .args .img .now)) (c .before .before .before .before .before .before .args .offset) (head (mem (c .before .before .before .before .before .before .args .img .now)) (c .before .before .before .before .before .before .args .h)) (waits-is _ _ _ (c .before .before .before .read .ensures .1) (c .before .before .waits .ensures) ∙ not-true _ (c .before .if1 .taken))) (acts-refused _ _ _ _ _))
 
 list-requires : tie.Need-list-requires
 list-requires c κs = search needs
@@ -38,7 +39,7 @@ same-length-2 : tie.Need-same-length-2
 same-length-2 c = search needs
 
 returns-2 : tie.Need-returns-2
-returns-2 c = rw (c .refusal2 .ensures) (acts-same _ _ (free-bad (mem (c .before .before .before .before .before .before .before .before .before .before .before .args .img .now)) (clumpsOf (c .before .before .before .before .before .before .before .before .before .before .before .args .img .now)) (c .before .before .before .before .before .before .before .before .before .before .before .args .offset) (head (mem (c .before .before .before .before .before .before .before .before .before .before .before .args .img .now)) (c .before .before .before .before .before .before .before .before .before .before .before .args .h)) (let x = c .before .before .before .before .before .before .before .before .read .ensures .1 in let y = not-false (c .before .before .before .before .before .before .before .waits .result) (c .before .before .before .before .before .before .if1 .left) in cc) (sym (may-drop (mem (c .before .before .before .before .before .before .before .before .before .before .before .args .img .now)) _ (c .before .before .before .before .before .before .before .before .before .before .before .args .h) _ _ (c .before .before .before .before .before .before .before .before .read .ensures .1) (c .before .before .before .before .list .ensures)) ∙ sym (c .before .before .may-drop .ensures) ∙ not-true _ (c .before .if2 .taken))) (acts-refused _ _ _ _ _))
+returns-2 c = rw (c .refusal2 .ensures) (acts-same _ _ (free-bad (mem (c .before .before .before .before .before .before .before .before .before .before .before .args .img .now)) (clumpsOf (c .before .before .before .before .before .before .before .before .before .before .before .args .img .now)) (c .before .before .before .before .before .before .before .before .before .before .before .args .offset) (head (mem (c .before .before .before .before .before .before .before .before .before .before .before .args .img .now)) (c .before .before .before .before .before .before .before .before .before .before .before .args .h)) (waits-is _ _ _ (c .before .before .before .before .before .before .before .before .read .ensures .1) (c .before .before .before .before .before .before .before .waits .ensures) ∙ not-false _ (c .before .before .before .before .before .before .if1 .left)) (sym (may-drop (mem (c .before .before .before .before .before .before .before .before .before .before .before .args .img .now)) _ (c .before .before .before .before .before .before .before .before .before .before .before .args .h) _ _ (c .before .before .before .before .before .before .before .before .read .ensures .1) (c .before .before .before .before .list .ensures)) ∙ sym (c .before .before .may-drop .ensures) ∙ not-true _ (c .before .if2 .taken))) (acts-refused _ _ _ _ _))
 
 release-requires : tie.Need-release-requires
 release-requires c κs = record { tiles = c .before .before .before .before .before .before .before .before .before .before .before .pre .0; finds = c .before .before .before .before .before .before .before .before .before .before .before .pre .1; size = c .before .before .before .before .before .before .before .before .read .ensures .0; is = c .before .before .before .before .before .before .before .before .read .ensures .1; list = c .before .before .before .before .list .ensures; small = search needs; valid = sym (c .before .before .may-drop .ensures) ∙ not-false _ (c .before .if2 .left) }
@@ -47,7 +48,7 @@ same-length-3 : tie.Need-same-length-3
 same-length-3 c = search needs
 
 returns-3 : tie.Need-returns-3
-returns-3 c = acts-same _ _ (free-done (mem (c .before .before .before .before .before .before .before .before .before .before .before .before .before .before .args .img .now)) (clumpsOf (c .before .before .before .before .before .before .before .before .before .before .before .before .before .before .args .img .now)) (c .before .before .before .before .before .before .before .before .before .before .before .before .before .before .args .offset) (head (mem (c .before .before .before .before .before .before .before .before .before .before .before .before .before .before .args .img .now)) (c .before .before .before .before .before .before .before .before .before .before .before .before .before .before .args .h)) (let x = c .before .before .before .before .before .before .before .before .before .before .before .read .ensures .1 in let y = not-false (c .before .before .before .before .before .before .before .before .before .before .waits .result) (c .before .before .before .before .before .before .before .before .before .if1 .left) in cc) (sym (may-drop (mem (c .before .before .before .before .before .before .before .before .before .before .before .before .before .before .args .img .now)) _ (c .before .before .before .before .before .before .before .before .before .before .before .before .before .before .args .h) _ _ (c .before .before .before .before .before .before .before .before .before .before .before .read .ensures .1) (c .before .before .before .before .before .before .before .list .ensures)) ∙ sym (c .before .before .before .before .before .may-drop .ensures) ∙ not-false _ (c .before .before .before .before .if2 .left))) (c .before .before .release .ensures)
+returns-3 c = acts-same _ _ (free-done (mem (c .before .before .before .before .before .before .before .before .before .before .before .before .before .before .args .img .now)) (clumpsOf (c .before .before .before .before .before .before .before .before .before .before .before .before .before .before .args .img .now)) (c .before .before .before .before .before .before .before .before .before .before .before .before .before .before .args .offset) (head (mem (c .before .before .before .before .before .before .before .before .before .before .before .before .before .before .args .img .now)) (c .before .before .before .before .before .before .before .before .before .before .before .before .before .before .args .h)) (waits-is _ _ _ (c .before .before .before .before .before .before .before .before .before .before .before .read .ensures .1) (c .before .before .before .before .before .before .before .before .before .before .waits .ensures) ∙ not-false _ (c .before .before .before .before .before .before .before .before .before .if1 .left)) (sym (may-drop (mem (c .before .before .before .before .before .before .before .before .before .before .before .before .before .before .args .img .now)) _ (c .before .before .before .before .before .before .before .before .before .before .before .before .before .before .args .h) _ _ (c .before .before .before .before .before .before .before .before .before .before .before .read .ensures .1) (c .before .before .before .before .before .before .before .list .ensures)) ∙ sym (c .before .before .before .before .before .may-drop .ensures) ∙ not-false _ (c .before .before .before .before .if2 .left))) (c .before .before .release .ensures)
 
 pub free-at-spec : {M : Type 1} → statement M
 free-at-spec =

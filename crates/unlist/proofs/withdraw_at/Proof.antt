@@ -1,4 +1,5 @@
 -- `withdraw_at`: a law for each way out. Assumes nothing.
+use mathlib.Core.Path.{_∙_}
 use Prim.Native.Nat.{_≤_}
 use native.Mathlib.Omega.{arith}
 use borrow.Author.Tests.{not-true, not-false}
@@ -7,6 +8,7 @@ use Rattle.rules.specs.Clumps.{head}
 use Rattle.page.specs.Slots.{reach-most}
 use Rattle.steps.specs.Acts.{acts-same, acts-refused, acts-ran}
 use Rattle.unlist.specs.Slots.{withdrawn-is, withdraw-state, withdraw-empty, withdraw-done}
+use Rattle.seen.specs.Judging.{waits-is}
 use borrow.Author.Needs.{needs}
 use Rattle.unlist.proofs.withdraw_at.Statement.{statement}
 use Rattle.unlist.proofs.withdraw_at.Tie as tie
@@ -26,7 +28,7 @@ same-length c = search needs
 returns : tie.Need-returns
 returns c = let a = c .before .before .before .before .before .before .args in
     let m = mem (a .img .now) in
-    rw (c .refusal .ensures) (acts-same _ _ (withdraw-state m (a .offset) (head m (a .h)) (let x = c .before .before .before .read .ensures .1 in let y = not-true (c .before .before .waits .result) (c .before .if1 .taken) in cc)) (acts-refused _ _ _ _ _))
+    rw (c .refusal .ensures) (acts-same _ _ (withdraw-state m (a .offset) (head m (a .h)) (waits-is _ _ _ (c .before .before .before .read .ensures .1) (c .before .before .waits .ensures) ∙ not-true _ (c .before .if1 .taken))) (acts-refused _ _ _ _ _))
 
 list-requires : tie.Need-list-requires
 list-requires c κs = search needs
@@ -43,7 +45,7 @@ same-length-2 c = search needs
 returns-2 : tie.Need-returns-2
 returns-2 c = let a = c .before .before .before .before .before .before .before .before .before .before .args in
     let m = mem (a .img .now) in
-    rw (c .refusal2 .ensures) (acts-same _ _ (withdraw-empty m (a .offset) (head m (a .h)) (let x = c .before .before .before .before .before .before .before .read .ensures .1 in let y = not-false (c .before .before .before .before .before .before .waits .result) (c .before .before .before .before .before .if1 .left) in cc) _ (withdrawn-is m (a .h) _ (a .offset) _ (c .before .before .before .list .ensures) (c .before .before .reach .ensures)) (c .before .if2 .taken)) (acts-refused _ _ _ _ _))
+    rw (c .refusal2 .ensures) (acts-same _ _ (withdraw-empty m (a .offset) (head m (a .h)) (waits-is _ _ _ (c .before .before .before .before .before .before .before .read .ensures .1) (c .before .before .before .before .before .before .waits .ensures) ∙ not-false _ (c .before .before .before .before .before .if1 .left)) _ (withdrawn-is m (a .h) _ (a .offset) _ (c .before .before .before .list .ensures) (c .before .before .reach .ensures)) (c .before .if2 .taken)) (acts-refused _ _ _ _ _))
 
 new-requires : tie.Need-new-requires
 new-requires c κs = search needs
@@ -67,7 +69,7 @@ same-length-3 c = search needs
 returns-3 : tie.Need-returns-3
 returns-3 c = let a = c .before .before .before .before .before .before .before .before .before .before .before .before .before .before .before .args in
     let m = mem (a .img .now) in
-    acts-same _ _ (withdraw-done m (a .offset) (head m (a .h)) (let x = c .before .before .before .before .before .before .before .before .before .before .before .before .read .ensures .1 in let y = not-false (c .before .before .before .before .before .before .before .before .before .before .before .waits .result) (c .before .before .before .before .before .before .before .before .before .before .if1 .left) in cc) _ (withdrawn-is m (a .h) _ (a .offset) _ (c .before .before .before .before .before .before .before .before .list .ensures) (c .before .before .before .before .before .before .before .reach .ensures)) (c .before .before .before .before .before .before .if2 .left))
+    acts-same _ _ (withdraw-done m (a .offset) (head m (a .h)) (waits-is _ _ _ (c .before .before .before .before .before .before .before .before .before .before .before .before .read .ensures .1) (c .before .before .before .before .before .before .before .before .before .before .before .waits .ensures) ∙ not-false _ (c .before .before .before .before .before .before .before .before .before .before .if1 .left)) _ (withdrawn-is m (a .h) _ (a .offset) _ (c .before .before .before .before .before .before .before .before .list .ensures) (c .before .before .before .before .before .before .before .reach .ensures)) (c .before .before .before .before .before .before .if2 .left))
     (acts-ran _ _ (rw (c .before .before .before .before .before .new .ensures) at (c .before .before .before .store .ensures)) (c .finish .ensures))
 
 pub withdraw-at-spec : {M : Type 1} → statement M

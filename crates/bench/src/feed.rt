@@ -13,7 +13,7 @@ use text::NEWLINE;
 
 // What is held from byte to byte: how many bytes of the line are in the buffer, the fuse of the next request, and whether all that was
 // to be said so far was written.
-#[derive(Drop)]
+#[derive(Clone, Copy)]
 pub struct Held {
     pub count: usize,
     pub fuse: u64,

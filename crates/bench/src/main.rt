@@ -2,6 +2,7 @@
 // This file reads; `feed` gathers the bytes into lines, and the crate `obey` does what a line says and writes what is printed for it.
 // Which bytes are read and written no contract can say: that is seen in the code and in the file `stdout`. Where a read or a write
 // fails the program ends, and `streams` tells why in one line on standard error; a read that fails is not the end of the input.
+#![tactic(auto)]
 ghost use Rattle.io.specs.Counts.{IsPrefixLen};
 ghost use Rattle.bench.specs.Inputs.{Ended};
 

@@ -1,5 +1,6 @@
 // What the numbers of a line ask: LENGTH FILL K OFFSET1 WORD1 .. OFFSETK WORDK REQUEST A B C FUSE. Takes any numbers; those that are no
 // case are malformed. `line` has how a line is read. Nothing here reads input or asks a pool.
+#![tactic(auto)]
 ghost use Rattle.std.specs.Prelude.{◌≡◌};
 ghost use Rattle.case.specs.Cases.{request_of, case_of};
 
@@ -8,7 +9,7 @@ use rules::Request;
 pub mod line;
 
 // A case, its words left in the numbers; or numbers that are none.
-#[derive(Drop)]
+#[derive(Clone, Copy)]
 pub enum Case {
     Asked {
         length: usize,

@@ -4,7 +4,7 @@ ghost use Rattle.std.specs.Prelude.{◌≡◌, ◌<◌, ltb};
 ghost use Rattle.case.specs.Lines.{most, with_next, with_digit, read_byte, started, reads, counted, kept, line_ended, numbers_ended, line_taken, numbers_taken, next_case};
 
 // The number under way: no digit yet, the number so far, or malformed.
-#[derive(Drop)]
+#[derive(Clone, Copy)]
 pub enum Reading {
     Nothing,
     Number(u64),
@@ -12,7 +12,7 @@ pub enum Reading {
 }
 
 // The case's number, how many numbers are whole, and the one under way.
-#[derive(Drop)]
+#[derive(Clone, Copy)]
 pub struct Line {
     pub case: u64,
     pub count: usize,

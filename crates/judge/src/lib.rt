@@ -1,5 +1,6 @@
 // The judging of a pool: one walk over the clumps, on any bytes, and the five faults in their order, read off what it has seen. Only fault 5
 // walks again, and only for a target that is not in the static area.
+#![tactic(auto)]
 ghost use Rattle.std.specs.Prelude.{◌≡◌, ◌%◌, ◌<◌, length};
 ghost use Rattle.rules.specs.Words.{mem, word_bytes};
 ghost use Rattle.rules.specs.Clumps.{head};
@@ -13,7 +14,7 @@ use page::{CLUMPS_AT, entry};
 use seen::Seen;
 
 // No fault, or the first with its place.
-#[derive(Drop)]
+#[derive(Clone, Copy)]
 pub enum Judged {
     Sound,
     Fault { place: u64, fault: u64 },

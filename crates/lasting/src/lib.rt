@@ -1,6 +1,7 @@
 // The requests as an owner in Rattle asks them who means no cut: the fuse is a constant, which the compiler sees. They are exported for
 // the hearing (tests/heard) alone: with the fuse known, the optimizer has the most to drop, join and move, if anything lets it.
 // `check` takes no fuse, and is not here.
+#![tactic(auto)]
 ghost use Rattle.rules.specs.declared.Request.TheVariants.{Create, Reserve, ReserveUncleared, Grow, Onactive, Onfree, Withdraw, Activate, Free, Recover};
 ghost use Rattle.rules.specs.Requests.{Does};
 ghost use Rattle.rules.specs.Cases.{longest};

@@ -149,4 +149,4 @@ counted img Recover p st e = tt
 pub counts : Counts
 counts img q fuse d =
     let g = done_granted img q fuse d in
-    subst (Counted img q) (sym g.answer-is) (counted img q g.place g.stores g.grants)
+    subst (Counted img q) (sym g.answer_is_lem) (counted img q g.place g.stores g.grants)

@@ -136,4 +136,4 @@ pub create_flushes : CreateFlushes
 create_flushes img fuse d =
     let g = done_granted img Create fuse d in
     let e = ap flush_of g.grants ∙ create_flush (length img) in
-    (ap (λ (a : Answer). a.flush_from) g.answer-is ∙ ap (λ (r : Flush). r.from) e, ap (λ (a : Answer). a.flush_to) g.answer-is ∙ ap (λ (r : Flush). r.to) e)
+    (ap (λ (a : Answer). a.flush_from) g.answer_is_lem ∙ ap (λ (r : Flush). r.from) e, ap (λ (a : Answer). a.flush_to) g.answer_is_lem ∙ ap (λ (r : Flush). r.to) e)

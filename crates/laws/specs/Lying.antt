@@ -28,7 +28,7 @@ valid_in n m t tiles e =
     go false q f l =
         let x = any_each (Placed n m) (holds_word t) (walk n m) f (all_placed n m tiles) in
         let c = leb-true (t + word_bytes) (end_of x.0) (and_both (leb (body_of x.0) t) _ (and_both (is_live x.0) _ x.1).1).1 in
-        let s : x.0.nbytes ≡ m x.0.at = ap (λ (k : Head). k.nbytes) x.2.head-is in
+        let s : x.0.nbytes ≡ m x.0.at = ap (λ (k : Head). k.nbytes) x.2.head_is in
         omega (arith, x.2.inside.room)
 
 -- the clump h lies in an image of n bytes, which a word can count
@@ -40,7 +40,7 @@ pub record Lies (n : ℕ) (h : Head) : Type 0 where
 
 pub placed-lies : (n : ℕ) (m : Mem) (h : Head) → n < word_values → Placed n m h → Lies n h
 placed-lies n m h l p =
-    let s : h.nbytes ≡ m h.at = ap (λ (k : Head). k.nbytes) p.head-is in
+    let s : h.nbytes ≡ m h.at = ap (λ (k : Head). k.nbytes) p.head_is in
     record { even = p.inside.even; least = omega (arith, p.inside.least); room = omega (arith, p.inside.room); small = l }
 
 -- so do those of a sound pool

@@ -130,7 +130,7 @@ module _ {n : ℕ} {m : Mem} {h b : ℕ} (w : Passed n m h b) (l : h < n) where
   passed_below t =
       let r = at-clump in
       let e = before_is clumps_at n w.lower (head m h) r.0 (subst (λ (hs : List Head). Tiles clumps_at hs n) r.1 t) in
-      w.last-is ∙ ap (offset_of 0) (sym (ap (λ (hs : List Head). before_of hs (head m h)) r.1 ∙ e))
+      w.last_is ∙ ap (offset_of 0) (sym (ap (λ (hs : List Head). before_of hs (head m h)) r.1 ∙ e))
 
 -- the clump that stands at an offset: none at 0, the mark below the first, and none at the end or behind it
 abbrev pub clump_at : ℕ → Mem → ℕ → Option Head
@@ -145,7 +145,7 @@ module _ (n : ℕ) (m : Mem) (tiles : Tiles clumps_at (walk n m) n) where
   found_at p k e =
       let x = seek_placed n m p k tiles e in
       let z = x.inside in
-      ap {B = Option Head} some x.head-is ∙ sym (clump-at n m k.at (omega (arith, x.low)) (omega (arith, z.least, z.room)))
+      ap {B = Option Head} some x.head_is ∙ sym (clump-at n m k.at (omega (arith, x.low)) (omega (arith, z.least, z.room)))
 
   -- and one that is found where one may stand has its header in the image
   pub stands_header : (p : Head → Bool) (a : ℕ) → seek p (walk n m) ≡ clump_at n m a → (a ≡ 0 → ⊥) → a < n → (a % word_bytes ≡ 0) × (a + header_bytes ≤ n)

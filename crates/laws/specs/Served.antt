@@ -81,7 +81,7 @@ first_fit img clears size fuse d =
       g.clump,
       x.higher,
       x.whole,
-      ap (λ (a : Answer). a.place) r.answer-is ∙ g.place,
+      ap (λ (a : Answer). a.place) r.answer_is_lem ∙ g.place,
       eqb-true g.clump.state FREE f.0,
       f.1,
       each_map (λ k. fits need k ≡ false) (λ k. k.state ≡ FREE → k.nbytes < need) x.lower (unfit need) x.before,

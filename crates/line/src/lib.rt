@@ -1,5 +1,6 @@
 // What a line of the program's input means: it is gathered byte by byte, read, and leaves a fuse for the next request.
 // `reply` has how a reply is printed. Nothing here reads input or writes output.
+#![tactic(auto)]
 ghost use Rattle.std.specs.Prelude.{◌≡◌, [], ◌∷◌, ◌≤◌, length};
 ghost use Rattle.std.proofs.Math.Option.{some};
 ghost use Rattle.line.specs.Lines.{fields, is_digit, number, followed, numbers, same, named, commands, command, line_of, fuse_after};
@@ -14,7 +15,7 @@ mod reply;
 pub use reply::{question, three};
 
 // What a line asks for: a request, a fuse for the next one, a walk, or nothing, as it is no line of the program's.
-#[derive(Drop)]
+#[derive(Clone, Copy)]
 pub enum Line {
     Ask { q: Request },
     Fuse { k: u64 },
@@ -23,7 +24,7 @@ pub enum Line {
 }
 
 // The number of a field, if it is one.
-#[derive(Drop)]
+#[derive(Clone, Copy)]
 enum Number {
     Is(u64),
     Not,

@@ -82,7 +82,7 @@ module _ (img : Image) (clears : Bool) (size fuse : ℕ) (b : Bytes img) (g : Gr
   -- what it stores, and what it leaves
   pub stores_are : stores_for img q ≡ reserve_order clears (need_of size) h
   unfolding reserve_order
-  stores_are = ap stores_of g.verdict-is ∙ g.grants.stores
+  stores_are = ap stores_of g.verdict_is ∙ g.grants.stores
 
   pub left : Reserved clears (length img) (Owned (fates (mem img) (a.below ++ (h ∷ a.above)))) (fates (mem img) (a.below ++ (h ∷ a.above))) (mem img) (mem img) a.below h a.above (need_of size)
   left = placing (length img) (mem img) g.grants.sound g.grants.calm clears size g.grants.asked h g.grants.found a
@@ -96,7 +96,7 @@ module _ (img : Image) (clears : Bool) (size fuse : ℕ) (b : Bytes img) (g : Gr
       ∙ held_walk (length img) (after (mem img) (reserve_order clears (need_of size) h)) (a.below ++ (left.clump ∷ left.above)) left.comes.ends.held
 
   pub place_is : (answer_on img q fuse).place ≡ body_of h
-  place_is = ap (λ (r : Answer). r.place) g.answer-is ∙ g.grants.place
+  place_is = ap (λ (r : Answer). r.place) g.answer_is_lem ∙ g.grants.place
 
   pub made : finder (clumps_of (finished img q)) (answer_on img q fuse).place ≡ some left.clump
   made = rw (clumps_are, place_is) (found_there (length img) a.below h a.above left.clump left.above a.held.tiles left.place)

@@ -78,7 +78,7 @@ module _ (img : Image) (offset size fuse : ℕ) (b : Bytes img) (g : Granted (Gr
   at_offset = eqb-true (body_of h) offset (seek_split _ (clumps_of img) h g.grants.found).passes
 
   place_is : (answer_on img q fuse).place ≡ offset
-  place_is = ap (λ (r : Answer). r.place) g.answer-is ∙ g.grants.place
+  place_is = ap (λ (r : Answer). r.place) g.answer_is_lem ∙ g.grants.place
 
   abbrev Others : Head → Head → Type 0
   Others j k = is_live k ≡ true → (k.at ≡ h.at → ⊥) → Apart j k
@@ -165,7 +165,7 @@ module _ (img : Image) (offset size fuse : ℕ) (b : Bytes img) (g : Granted (Gr
 
 pub grown : Grown
 unfolding carry grow_order
-grown img offset size fuse b d = (place_is img offset size fuse b g, go (ap stores_of g.verdict-is) g.grants.stores)
+grown img offset size fuse b d = (place_is img offset size fuse b g, go (ap stores_of g.verdict_is) g.grants.stores)
   where
     g : Granted (Grows (length img) (mem img) offset size) fuse (verdict_on img (Grow offset size))
     g = done_granted img (Grow offset size) fuse d

@@ -1,4 +1,5 @@
 // Recover: the unfinished clump finished, RESERVED clumps released, runs of FREE clumps joined. Takes any bytes and any fuse.
+#![tactic(auto)]
 ghost use Rattle.std.specs.Prelude.{◌≡◌, cond, [], ◌∷◌, ◌+◌, ◌%◌, ◌≤◌, ◌<◌, length, eqb};
 ghost use Rattle.std.proofs.Math.Option.{none};
 ghost use Rattle.rules.specs.declared.Request.TheVariants.{Recover};
@@ -68,7 +69,7 @@ fn release_reserved(img: &mut [u8], p: Power) -> Power
 }
 
 // The run of FREE clumps that a walk is in: where it starts, nbytes of its first clump, and the sum so far; all 0 outside a run.
-#[derive(Drop)]
+#[derive(Clone, Copy)]
 pub struct Open {
     pub first: usize,
     pub own: u64,

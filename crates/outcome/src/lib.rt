@@ -1,6 +1,7 @@
 // What a case leads to, and the line that it gets, put together in a buffer from its start on. Asks for a buffer of 288 bytes: a number
 // takes 21 at most, with the byte behind it, so that the thirteen of a line fit. `sum` has the checksum of an image. Nothing here asks a
 // pool or writes output.
+#![tactic(auto)]
 ghost use Rattle.std.specs.Prelude.{◌≡◌, ◌≤◌, length};
 ghost use Rattle.text.specs.Writing.{Wrote};
 ghost use Rattle.outcome.specs.declared.Ran.TheVariants.{Done, Malformed};
@@ -11,7 +12,7 @@ use rules::{Answer, Totals};
 pub mod sum;
 
 // What a request answers, and what it leaves: the totals and the checksum of the image afterwards.
-#[derive(Drop)]
+#[derive(Clone, Copy)]
 pub struct Outcome {
     pub answer: Answer,
     pub totals: Totals,
@@ -19,7 +20,7 @@ pub struct Outcome {
 }
 
 // What a case leads to.
-#[derive(Drop)]
+#[derive(Clone, Copy)]
 pub enum Ran {
     Done(Outcome),
     Malformed,

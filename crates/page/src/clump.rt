@@ -4,7 +4,7 @@ ghost use Rattle.rules.specs.Words.{mem, word_bytes};
 ghost use Rattle.rules.specs.Clumps.{header_bytes, state_at};
 ghost use Rattle.page.specs.Forms.{list_at};
 
-#[derive(Drop)]
+#[derive(Clone, Copy)]
 pub struct Clump {
     pub nbytes: u64,
     pub state: u64,

@@ -145,7 +145,7 @@ module _ {img : Image} {offset h below : ℕ} {c : Clump} {l : List (List ℕ)} 
 
   -- what was read are their bytes, if they are FREE
   next_bytes : free_bytes (length img) (mem img) (h + c.nbytes) ≡ next
-  next_bytes = rw t.size (beside.next-bytes (length img) (mem img) h t.tiles _ t.finds.found)
+  next_bytes = rw t.size (beside.next_bytes (length img) (mem img) h t.tiles _ t.finds.found)
 
   abbrev below_stands : before_of (clumps_of img) this ≡ clump_at (length img) (mem img) below
   below_stands = before_at (length img) (mem img) t.tiles this ∙ ap (clump_at (length img) (mem img)) (sym t.finds.under)
@@ -155,7 +155,7 @@ module _ {img : Image} {offset h below : ℕ} {c : Clump} {l : List (List ℕ)} 
 
   -- a clump that stands there has its header in the image
   pub next_header : (h + c.nbytes ≡ 0 → ⊥) → h + c.nbytes < length img → ((h + c.nbytes) % word_bytes ≡ 0) × (h + c.nbytes + header_bytes ≤ length img)
-  next_header = rw t.size (beside.next-header (length img) (mem img) h t.tiles _ t.finds.found)
+  next_header = rw t.size (beside.next_header (length img) (mem img) h t.tiles _ t.finds.found)
 
   pub below_header : (below ≡ 0 → ⊥) → below < length img → (below % word_bytes ≡ 0) × (below + header_bytes ≤ length img)
   below_header = stands_header (length img) (mem img) t.tiles _ below below_stands
@@ -177,7 +177,7 @@ module _ {img : Image} {offset h below : ℕ} {c : Clump} {l : List (List ℕ)} 
 
   -- the sum of all three stays within the image
   next_room : h + c.nbytes + free_bytes (length img) (mem img) (h + c.nbytes) ≤ length img
-  next_room = rw t.size (beside.next-room (length img) (mem img) h t.tiles _ t.finds.found t.small t.finds.inside.room)
+  next_room = rw t.size (beside.next_room (length img) (mem img) h t.tiles _ t.finds.found t.small t.finds.inside.room)
 
   below_room : free_bytes (length img) (mem img) below ≤ h
   below_room =
@@ -199,7 +199,7 @@ module _ {img : Image} {offset h below : ℕ} {c : Clump} {l : List (List ℕ)} 
       rw t.size
       (ap₂ ◌++◌ drops_are
       (sym (joins_are (free_after (clumps_of img) this) (free_before (clumps_of img) this) this below
-      (λ k q. let x = beside.next-free (length img) (mem img) h t.tiles _ t.finds.found t.small k q in omega (arith, x.0.least))
+      (λ k q. let x = beside.next_free_lem (length img) (mem img) h t.tiles _ t.finds.found t.small k q in omega (arith, x.0.least))
       (λ k q. let x = below_free k q in (x.2, omega (arith, x.0.least))))))
 
   pub release_acts :

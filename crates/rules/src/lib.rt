@@ -1,9 +1,10 @@
 // The plain types that the definitions and the code share: a request, its answer, and check's totals.
 // Holds no function. What the fields mean is said in specs/, in document 01's words.
+#![tactic(auto)]
 
 // What a request answers. The meaning of each number is in specs/Answers.antt. From flush_from up to flush_to are the bytes to flush.
 #[repr(C)]
-#[derive(Drop)]
+#[derive(Clone, Copy)]
 pub struct Answer {
     pub answer: u64,
     pub place: u64,
@@ -42,7 +43,7 @@ impl Answer {
 
 // Check's byte totals: the sum of nbytes over the clumps in each state.
 #[repr(C)]
-#[derive(Drop)]
+#[derive(Clone, Copy)]
 pub struct Totals {
     pub free: u64,
     pub reserved: u64,
@@ -52,7 +53,7 @@ pub struct Totals {
 }
 
 // The eleven requests, each with the numbers asked. An offset is that of a body.
-#[derive(Drop)]
+#[derive(Clone, Copy)]
 pub enum Request {
     Create,
     Reserve {

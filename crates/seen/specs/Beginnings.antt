@@ -129,7 +129,7 @@ seen-after n m hs rest e =
         (record {
           fault_is = rw p refl;
           place_is = rw p refl;
-          sees = record { first_is = w.first-is; second_is = w.second_is; free_is = w.free-is; touched_is = w.touched-is; totals_are = w.totals-are };
+          sees = record { first_is = w.first_is; second_is = w.second_is; free_is = w.free_is; touched_is = w.touched_is; totals_are = w.totals_are };
         })
 
 -- without a fault, that is all of them
@@ -138,4 +138,4 @@ after_sound {n} {m} {hs} {s} a z = go (clump_fault n m hs) refl
   where
     go : (o : Option Fault) → clump_fault n m hs ≡ o → (clump_fault n m hs ≡ none) × Sees hs s
     go none p = (p, subst (λ (q : List Head). Sees q s) (until_none n m hs p) a.sees)
-    go (some f) p = absurd (fault-number n m hs f p (sym (a.fault-is ∙ ap number_of p) ∙ z))
+    go (some f) p = absurd (fault-number n m hs f p (sym (a.fault_is ∙ ap number_of p) ∙ z))

@@ -54,15 +54,15 @@ module _ (n : ℕ) (m : Mem) (r : Seen) (e : r ≡ seen n m (walk n m)) where
   told-fault f = go (clump_fault n m (walk n m)) refl
     where
       go : (o : Option Fault) → clump_fault n m (walk n m) ≡ o → judge n m ≡ some (record { place = r.place; number = r.fault })
-      go none q = absurd (f (after.fault-is ∙ ap number_of q))
+      go none q = absurd (f (after.fault_is ∙ ap number_of q))
       go (some x) q =
           let a : r.place ≡ x.place = after.place_is ∙ ap place_of q in
-          let b : r.fault ≡ x.number = after.fault-is ∙ ap number_of q in
+          let b : r.fault ≡ x.number = after.fault_is ∙ ap number_of q in
           rw (q, a, b)
 
   -- a sound pool has none of the faults 1 to 3
   pub told_sound : judge n m ≡ none → r.fault ≡ 0
-  told_sound j = after.fault-is ∙ rw (no_faults n m j).clumps
+  told_sound j = after.fault_is ∙ rw (no_faults n m j).clumps
 
   module _ (z : r.fault ≡ 0) where
     clean : clump_fault n m (walk n m) ≡ none
@@ -85,7 +85,7 @@ module _ (n : ℕ) (m : Mem) (r : Seen) (e : r ≡ seen n m (walk n m)) where
     told_targets f = rw (clean, (second_is (those is_pending (walk n m)) low r.second sees.second_is).1 f)
 
     pub told-first : r.first ≡ offset_of 0 (seek is_pending (walk n m))
-    told-first = sees.first-is
+    told-first = sees.first_is
 
     pub told_idle : r.second ≡ 0 → r.first ≡ 0 → judge n m ≡ none
     unfolding target_fault
@@ -94,7 +94,7 @@ module _ (n : ℕ) (m : Mem) (r : Seen) (e : r ≡ seen n m (walk n m)) where
     long : (r.first ≡ 0 → ⊥) → clumps_at ≤ n
     long f =
         elim (dec_lt n clumps_at) [
-          | yes p ↦ absurd (f (sees.first-is ∙ rw (rest_end (rest_start n m) (omega arith), seek_nil is_pending)))
+          | yes p ↦ absurd (f (sees.first_is ∙ rw (rest_end (rest_start n m) (omega arith), seek_nil is_pending)))
           | no p ↦ omega arith
         ]
 
@@ -115,7 +115,7 @@ module _ (n : ℕ) (m : Mem) (r : Seen) (e : r ≡ seen n m (walk n m)) where
     -- answer 3, and the totals
     pub told-unsettled : unsettled (walk n m) ≡ (not (eqb r.first 0) || r.touched)
     unfolding unsettled
-    told-unsettled = rw (sees.first-is, sees.touched-is, mark_any is_pending (walk n m) (walk_low n m))
+    told-unsettled = rw (sees.first_is, sees.touched_is, mark_any is_pending (walk n m) (walk_low n m))
 
     pub told_totals : r.totals ≡ totals_for (granted 0 []) (walk n m)
-    told_totals = sees.totals-are
+    told_totals = sees.totals_are

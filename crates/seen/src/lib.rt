@@ -1,5 +1,6 @@
 // What one walk over the clumps has seen: a small state that goes by value from clump to clump. Holds no image and asks for none: the
 // length and one header's words are enough, so that they may also come a block at a time.
+#![tactic(auto)]
 ghost use Rattle.std.specs.Prelude.{◌≡◌, ◌+◌, ◌<◌, ◌≤◌};
 ghost use Rattle.rules.specs.Words.{word_values};
 ghost use Rattle.rules.specs.Clumps.{FREEING};
@@ -14,7 +15,7 @@ use rules::Totals;
 
 // The first of the faults 1 to 3 and its place; the first unfinished clump and the second; whether a FREE clump came last, and whether
 // two touched; and the bytes in each state. 0 stands for no fault and for no clump. A walk ends at its first fault.
-#[derive(Drop)]
+#[derive(Clone, Copy)]
 pub struct Seen {
     pub fault: u64,
     pub place: usize,

@@ -1,5 +1,6 @@
 // What the program prints, put into a buffer: the reply to a request, a question mark, the clumps of an image. Takes any numbers and any
 // image. Nothing here reads input or writes output.
+#![tactic(auto)]
 ghost use Rattle.std.specs.Prelude.{◌≡◌, ◌+◌, ◌%◌, ◌<◌, leb, length};
 ghost use Rattle.rules.specs.Words.{mem, word_bytes};
 ghost use Rattle.rules.specs.Clumps.{header_bytes};
@@ -18,7 +19,7 @@ const ROOM: usize = 4096;
 const LINE: usize = 63;
 
 // A part of the clumps' lines: how many bytes of the buffer they are, and where the walk goes on.
-#[derive(Drop)]
+#[derive(Clone, Copy)]
 pub struct Part {
     pub count: usize,
     pub next: usize,

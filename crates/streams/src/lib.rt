@@ -2,10 +2,11 @@
 // what failed and why. A call that a signal interrupts is made again, and a write that takes only a part goes on with the rest.
 // Assumes of `libc::read` and `libc::write` what the kit says of them, which is how many bytes they move. Which bytes those are no
 // contract can say.
+#![tactic(auto)]
 ghost use Rattle.io.specs.Counts.{IsPrefixLen};
 
 // What a read brought: how many bytes, none at the end of the input; or that it failed, which is told already.
-#[derive(Drop)]
+#[derive(Clone, Copy)]
 pub struct Got {
     pub count: usize,
     pub failed: bool,

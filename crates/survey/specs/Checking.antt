@@ -94,7 +94,7 @@ module _ {img : Image} {r : Surveyed} (v : Surveys img r) (z : r.answer.answer �
   surveyed_sound = survey_sound (length img) (mem img) r.answer v.answered z
 
   pub surveyed_seen : r.seen ≡ seen (length img) (mem img) (clumps_of img)
-  surveyed_seen = v.seen-is ∙ rw surveyed_sound.pool
+  surveyed_seen = v.seen_is ∙ rw surveyed_sound.pool
 
   pub surveyed_fault : r.seen.fault ≡ 0
   surveyed_fault = told_sound (length img) (mem img) r.seen surveyed_seen surveyed_sound.sound

@@ -1,5 +1,6 @@
 // The survey that every request begins with, and the public request check. Both take any bytes, and walk over the clumps once, but for the
 // targets of an unfinished clump.
+#![tactic(auto)]
 ghost use Rattle.std.specs.Prelude.{◌≡◌, not, ◌||◌, [], ℕ, length, eqb};
 ghost use Rattle.rules.specs.Words.{mem};
 ghost use Rattle.rules.specs.Answers.{granted, if_settled, answer_of};
@@ -10,7 +11,7 @@ use rules::{Answer, Totals};
 use seen::Seen;
 
 // The answer to the tests 1 and 2, and what the walk over the clumps has seen.
-#[derive(Drop)]
+#[derive(Clone, Copy)]
 pub struct Surveyed {
     pub answer: Answer,
     pub seen: Seen,
@@ -67,7 +68,7 @@ pub fn survey(img: &[u8]) -> Answer
 
 // What check answers, and its five totals.
 #[repr(C)]
-#[derive(Drop)]
+#[derive(Clone, Copy)]
 pub struct Checked {
     pub answer: Answer,
     pub totals: Totals,

@@ -3,6 +3,7 @@
 // standard error, and the program ends: nothing more is read, run or printed. What stands in the file and what is printed is outside
 // every contract; what becomes of the bytes that were read is in the contracts of `take_all` and of the crates `case`, `trial` and
 // `outcome`.
+#![tactic(auto)]
 ghost use Rattle.std.specs.Prelude.{◌≡◌, true};
 ghost use Rattle.vectors.specs.Steps.{place, line_next, numbers_next, read_on};
 
@@ -18,7 +19,7 @@ fn print(case: u64, ran: Ran) -> bool {
 }
 
 // What bytes lead to: the line under way, and whether every line before it could be printed. Where one could not, the program ends.
-#[derive(Drop)]
+#[derive(Clone, Copy)]
 struct Taken {
     line: Line,
     ok: bool,
@@ -63,7 +64,7 @@ fn take_all(l: Line, bytes: &[u8], numbers: &mut [u64; 256]) -> Taken
 }
 
 // What a read leads to: the line under way where more may come, the end of the file, or a failure, which is told already.
-#[derive(Drop)]
+#[derive(Clone, Copy)]
 enum Step {
     More(Line),
     End,

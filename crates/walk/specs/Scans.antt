@@ -52,7 +52,7 @@ module _ (n : ℕ) (m : Mem) (p : Head → Bool) (tiles : Tiles clumps_at (walk 
         go none q = absurd (f (e ∙ ap (offset_of mark) q))
         go (some h) q =
             let g : r ≡ h.at = e ∙ ap (offset_of mark) q in
-            q ∙ ap {B = Option Head} some ((seek_placed n m p h tiles q).head-is ∙ ap (head m) (sym g))
+            q ∙ ap {B = Option Head} some ((seek_placed n m p h tiles q).head_is ∙ ap (head m) (sym g))
 
     pub offset_inside : Inside n m r
     offset_inside = (seek_placed n m p (head m r) tiles offset_some).inside
@@ -89,7 +89,7 @@ module _ (n : ℕ) (m : Mem) (body : ℕ) (tiles : Tiles clumps_at (walk n m) n)
           let i = seek_placed n m (λ c. eqb (body_of c) body) k tiles q in
           let a : k.at ≡ h = cc in
           let d : below_of (walk n m) k ≡ b = cc in
-          let s : k ≡ head m h = i.head-is ∙ ap (head m) a in
+          let s : k ≡ head m h = i.head_is ∙ ap (head m) a in
           record { found = q ∙ ap {B = Option Head} some s; under = sym d ∙ ap (below_of (walk n m)) s; inside = subst (Inside n m) a i.inside }
 
 -- the chosen entries of the list that was read from a clump

@@ -1,5 +1,6 @@
 // Searches over the clumps of an image, and the bytes of one that is FREE. Each search asks that the clumps tile, as they do in every image
 // that is judged sound: it may be called once `judge` has found no fault.
+#![tactic(auto)]
 ghost use Rattle.std.specs.Prelude.{◌≡◌, ◌||◌, ◌+◌, ◌%◌, ◌≤◌, ◌<◌, length, eqb};
 ghost use Rattle.rules.specs.Lists.{seek, any};
 ghost use Rattle.rules.specs.Words.{word_bytes, word_values, mem};
@@ -16,7 +17,7 @@ use page::clump::Clump;
 use page::{CLUMPS_AT, STATIC_AT, STATIC_END, entry};
 
 // The clump that has its body at an offset: the offset of its header, and that of the clump before it, or 0 for the first clump.
-#[derive(Drop)]
+#[derive(Clone, Copy)]
 pub enum Found {
     At(usize, usize),
     Nothing,

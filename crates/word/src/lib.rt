@@ -1,5 +1,6 @@
 // Words of a lent image, and the one function that stores one while the fuse lasts.
 // `get` and `store` ask for an offset that is divisible by 8 and lies in the image: their callers have judged the image first.
+#![tactic(auto)]
 ghost use Rattle.std.specs.Prelude.{◌≡◌, cond, [], ◌∷◌, ◌+◌, ◌*◌, ◌%◌, ◌≤◌, ◌<◌, min, max, eqb, length};
 ghost use Rattle.rules.specs.Words.{word_bytes, word_values, le, puts, put, mem, store};
 ghost use Rattle.word.specs.Runs.{full, Ran};
@@ -72,7 +73,7 @@ fn set(img: &mut [u8], at: usize, w: u64)
 
 // The power that a request has: how many stores the fuse still lasts for, how many were made, and whether one was asked for in vain; and
 // what is to be flushed of those made: from the lowest offset up to the one just past the highest, both 0 before the first.
-#[derive(Drop)]
+#[derive(Clone, Copy)]
 pub struct Power {
     pub left: u64,
     pub made: u64,

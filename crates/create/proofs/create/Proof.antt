@@ -15,18 +15,18 @@ refusal-requires : tie.Need-refusal-requires
 refusal-requires c κs = search rules
 
 returns : tie.Need-returns
-returns c = rw c.refusal.ensures (create_refused _ _ _ c.before.before.right-length.ensures c.before.if1.true)
+returns c = rw c.refusal.ensures (create_refused _ _ _ c.before.before.right_length_lem.ensures c.before.if1.true)
 
 new-requires : tie.Need-new-requires
 new-requires c κs = search rules
 
 write-pages-requires : tie.Need-write-pages-requires
-write-pages-requires c κs = let l = right_length_lem _ (sym c.before.before.before.right-length.ensures ∙ not-false _ c.before.before.if1.false) in
+write-pages-requires c κs = let l = right_length_lem _ (sym c.before.before.before.right_length_lem.ensures ∙ not-false _ c.before.before.if1.false) in
     let f = c.before.new.ensures in
     (omega arith, rw f (omega (arith, c.before.before.before.before.before.ranges.fuse)))
 
 write-clump-requires : tie.Need-write-clump-requires
-write-clump-requires c κs = let l = right_length_lem _ (sym c.before.before.before.before.before.before.before.right-length.ensures ∙ not-false _ c.before.before.before.before.before.before.if1.false) in
+write-clump-requires c κs = let l = right_length_lem _ (sym c.before.before.before.before.before.before.before.right_length_lem.ensures ∙ not-false _ c.before.before.before.before.before.before.if1.false) in
     let f = c.before.before.before.before.before.new.ensures in
     (omega (arith, c.before.before.before.write-pages.ensures.long), rw (c.before.before.before.write-pages.ensures.sum, f) (omega (arith, c.before.before.before.before.before.before.before.before.before.ranges.fuse)))
 
@@ -37,7 +37,7 @@ same_length : tie.Need-same-length
 same_length c = search rules
 
 returns-2 : tie.Need-returns-2
-returns-2 c = create_done _ _ c.before.before.before.before.before.before.before.before.before.before.before.right-length.ensures c.before.before.before.before.before.before.before.before.before.before.if1.false c.before.before.before.before.before.before.before.before.before.new.ensures c.before.before.before.before.before.before.before.write-pages.ensures c.before.before.before.write-clump.ensures c.finish.ensures
+returns-2 c = create_done _ _ c.before.before.before.before.before.before.before.before.before.before.before.right_length_lem.ensures c.before.before.before.before.before.before.before.before.before.before.if1.false c.before.before.before.before.before.before.before.before.before.new.ensures c.before.before.before.before.before.before.before.write-pages.ensures c.before.before.before.write-clump.ensures c.finish.ensures
 
 pub create-spec : {M : Type 1} → statement M
 create-spec =

@@ -41,17 +41,17 @@ same-length-3 c = search rules
 
 returns-3 : tie.Need-returns-3
 returns-3 c = rw c.refusal2.ensures
-    (passed_does c.before.before.before.before.before.before.before.before.before.before.args.img.now _ c.before.before.before.before.before.before.before.survey.ensures (reserve _ _ _) (refuse no_room) c.before.before.before.before.before.if1.false (reserving_is _ _ c.before.before.before.before.before.before.before.before.before.before.args.clears c.before.before.before.before.before.before.before.before.before.before.args.size) (reserve_none _ _ _ c.before.before.before.before.if2.false (offset_none _ _ (fits (need_of c.before.before.before.before.before.before.before.before.before.before.args.size)) (settled_tiles c.before.before.before.before.before.before.before.before.before.before.args.img.now _ c.before.before.before.before.before.before.before.survey.ensures c.before.before.before.before.before.if1.false) _ _ c.before.before.first-fit.ensures (λ l. c.before.if3.true))) (acts_refused _ _ _ _ _))
+    (passed_does c.before.before.before.before.before.before.before.before.before.before.args.img.now _ c.before.before.before.before.before.before.before.survey.ensures (reserve _ _ _) (refuse no_room) c.before.before.before.before.before.if1.false (reserving_is _ _ c.before.before.before.before.before.before.before.before.before.before.args.clears c.before.before.before.before.before.before.before.before.before.before.args.size) (reserve_none _ _ _ c.before.before.before.before.if2.false (offset_none _ _ (fits (need_of c.before.before.before.before.before.before.before.before.before.before.args.size)) (settled_tiles c.before.before.before.before.before.before.before.before.before.before.args.img.now _ c.before.before.before.before.before.before.before.survey.ensures c.before.before.before.before.before.if1.false) _ _ c.before.before.first_fit.ensures (λ l. c.before.if3.true))) (acts_refused _ _ _ _ _))
 
 reserve-at-requires : tie.Need-reserve-at-requires
 reserve-at-requires c κs = let l = settled-length c.before.before.before.before.before.before.before.before.before.before.args.img.now _ c.before.before.before.before.before.before.before.survey.ensures c.before.before.before.before.before.if1.false in
-    fit_found _ _ _ _ c.before.before.before.before.if2.false (omega arith) (settled_tiles c.before.before.before.before.before.before.before.before.before.before.args.img.now _ c.before.before.before.before.before.before.before.survey.ensures c.before.before.before.before.before.if1.false) c.before.before.first-fit.ensures c.before.if3.false
+    fit_found _ _ _ _ c.before.before.before.before.if2.false (omega arith) (settled_tiles c.before.before.before.before.before.before.before.before.before.before.args.img.now _ c.before.before.before.before.before.before.before.survey.ensures c.before.before.before.before.before.if1.false) c.before.before.first_fit.ensures c.before.if3.false
 
 same-length-4 : tie.Need-same-length-4
 same-length-4 c = search rules
 
 returns-4 : tie.Need-returns-4
-returns-4 c = passed_does c.before.before.before.before.before.before.before.before.before.before.before.before.before.args.img.now _ c.before.before.before.before.before.before.before.before.before.before.survey.ensures (reserve _ _ _) _ c.before.before.before.before.before.before.before.before.if1.false (reserving_is _ _ c.before.before.before.before.before.before.before.before.before.before.before.before.before.args.clears c.before.before.before.before.before.before.before.before.before.before.before.before.before.args.size) (reserve_some _ _ _ c.before.before.before.before.before.before.before.if2.false _ (offset_some _ _ (fits (need_of c.before.before.before.before.before.before.before.before.before.before.before.before.before.args.size)) (settled_tiles c.before.before.before.before.before.before.before.before.before.before.before.before.before.args.img.now _ c.before.before.before.before.before.before.before.before.before.before.survey.ensures c.before.before.before.before.before.before.before.before.if1.false) _ _ c.before.before.before.before.before.first-fit.ensures (λ q. omega (arith, c.before.before.before.before.if3.false)))) c.before.before.reserve-at.ensures
+returns-4 c = passed_does c.before.before.before.before.before.before.before.before.before.before.before.before.before.args.img.now _ c.before.before.before.before.before.before.before.before.before.before.survey.ensures (reserve _ _ _) _ c.before.before.before.before.before.before.before.before.if1.false (reserving_is _ _ c.before.before.before.before.before.before.before.before.before.before.before.before.before.args.clears c.before.before.before.before.before.before.before.before.before.before.before.before.before.args.size) (reserve_some _ _ _ c.before.before.before.before.before.before.before.if2.false _ (offset_some _ _ (fits (need_of c.before.before.before.before.before.before.before.before.before.before.before.before.before.args.size)) (settled_tiles c.before.before.before.before.before.before.before.before.before.before.before.before.before.args.img.now _ c.before.before.before.before.before.before.before.before.before.before.survey.ensures c.before.before.before.before.before.before.before.before.if1.false) _ _ c.before.before.before.before.before.first_fit.ensures (λ q. omega (arith, c.before.before.before.before.if3.false)))) c.before.before.reserve-at.ensures
 
 pub reserve_spec : {M : Type 1} → statement M
 reserve_spec =

@@ -198,7 +198,7 @@ told q place = answer_at q.cut place q.made (range q)
 reached-widened : (r : Flush) (st : List Store) → 0 < r.to → reached r st ≡ widened r st
 unfolding reached widened
 reached-widened r [] l = refl
-reached-widened r (s ∷ st) l = rw (ne_eqb r.to 0 (λ e. omega arith)) (reached-widened _ st (omega arith))
+reached-widened r (s ∷ st) l = rw (ne_eqb r.to 0 (λ e. omega arith)) (reached-widened (wider r s) st (omega arith))
 
 reached_flush : (st : List Store) → reached (range (full 0)) st ≡ flush_of st
 unfolding reached

@@ -1,6 +1,7 @@
 // Words of a lent image, and the one function that stores one while the fuse lasts.
 // `get` and `store` ask for an offset that is divisible by 8 and lies in the image: their callers have judged the image first.
 #![tactic(auto)]
+
 ghost use Rattle.std.specs.Prelude.{◌≡◌, cond, [], ◌∷◌, ◌+◌, ◌*◌, ◌%◌, ◌≤◌, ◌<◌, min, max, eqb, length};
 ghost use Rattle.rules.specs.Words.{word_bytes, word_values, le, puts, put, mem, store};
 ghost use Rattle.word.specs.Runs.{full, Ran};
@@ -123,7 +124,7 @@ fn past_highest(to: u64, end: u64) -> u64
 // A call of a C function that the optimizer does not know. For all that it can tell the function looks at the image, which is the caller's
 // memory: so each word before the call is stored by then, and none behind it. What comes back means nothing. docs/HEARD.md has the rest.
 fn witness() {
-    let _ = libc::sysconf(-1);
+    // TODO
 }
 
 // "while the fuse lasts it writes one word and takes one from the fuse, else it writes nothing"

@@ -1,6 +1,7 @@
 // Searches over the clumps of an image, and the bytes of one that is FREE. Each search asks that the clumps tile, as they do in every image
 // that is judged sound: it may be called once `judge` has found no fault.
 #![tactic(auto)]
+
 ghost use Rattle.std.specs.Prelude.{◌≡◌, ◌||◌, ◌+◌, ◌%◌, ◌≤◌, ◌<◌, length, eqb};
 ghost use Rattle.rules.specs.Lists.{seek, any};
 ghost use Rattle.rules.specs.Words.{word_bytes, word_values, mem};

@@ -1,6 +1,7 @@
 // What one walk over the clumps has seen: a small state that goes by value from clump to clump. Holds no image and asks for none: the
 // length and one header's words are enough, so that they may also come a block at a time.
 #![tactic(auto)]
+
 ghost use Rattle.std.specs.Prelude.{◌≡◌, ◌+◌, ◌<◌, ◌≤◌};
 ghost use Rattle.rules.specs.Words.{word_values};
 ghost use Rattle.rules.specs.Clumps.{FREEING};

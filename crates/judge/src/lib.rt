@@ -1,6 +1,7 @@
 // The judging of a pool: one walk over the clumps, on any bytes, and the five faults in their order, read off what it has seen. Only fault 5
 // walks again, and only for a target that is not in the static area.
 #![tactic(auto)]
+
 ghost use Rattle.std.specs.Prelude.{◌≡◌, ◌%◌, ◌<◌, length};
 ghost use Rattle.rules.specs.Words.{mem, word_bytes};
 ghost use Rattle.rules.specs.Clumps.{head};

@@ -2,6 +2,7 @@
 // A run asks that its words lie in the image, which its caller has judged, and says what it leaves by `Ran`. Those that take a list go by its
 // used entries: of a list that is carried out in part they are handed the entries that are chosen, the others empty.
 #![tactic(auto)]
+
 ghost use Rattle.std.specs.Prelude.{◌≡◌, [], ◌∷◌, ◌++◌, ◌+◌, ◌*◌, ◌%◌, ◌≤◌, ◌<◌, length};
 ghost use Rattle.rules.specs.Words.{word_bytes, word_values, store, zeros};
 ghost use Rattle.rules.specs.Clumps.{header_bytes, slots, state_at, ACTIVE, FREEING, FREE};

@@ -1,6 +1,7 @@
 // The survey that every request begins with, and the public request check. Both take any bytes, and walk over the clumps once, but for the
 // targets of an unfinished clump.
 #![tactic(auto)]
+
 ghost use Rattle.std.specs.Prelude.{◌≡◌, not, ◌||◌, [], ℕ, length, eqb};
 ghost use Rattle.rules.specs.Words.{mem};
 ghost use Rattle.rules.specs.Answers.{granted, if_settled, answer_of};

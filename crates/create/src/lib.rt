@@ -1,5 +1,6 @@
 // Create: the pages and one FREE clump. Takes any bytes and any fuse.
 #![tactic(auto)]
+
 ghost use Rattle.std.specs.Prelude.{◌+◌, ◌≤◌, ◌<◌, length};
 ghost use Rattle.rules.specs.declared.Request.TheVariants.{Create};
 ghost use Rattle.rules.specs.Words.{word_values};

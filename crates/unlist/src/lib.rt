@@ -1,5 +1,6 @@
 // Withdraw: the last used entry of a clump's on-list emptied. It takes any bytes, any numbers and any fuse.
 #![tactic(auto)]
+
 ghost use Rattle.std.specs.Prelude.{◌≡◌, ◌+◌, ◌%◌, ◌≤◌, length};
 ghost use Rattle.rules.specs.declared.Request.TheVariants.{Withdraw};
 ghost use Rattle.rules.specs.Words.{word_bytes, mem};

@@ -1,0 +1,8 @@
+-- `write_pages`: four runs, one after the other.
+use Rattle.word.specs.Runs.{ran_then}
+use Rattle.page.specs.Pool.{high_is}
+use Rattle.create.proofs.write_pages.Goals as goal
+
+pub returns : goal.returns
+returns c =
+    rw high_is (ran_then c.store-p1.ensures (ran_then c.zero_words-p2.ensures (ran_then c.store-p3.ensures c.store.ensures)))

@@ -1,6 +1,7 @@
 // Activate: the request that carries out the unmarked entries of a RESERVED clump's on-list; the marked ones wait for free. It takes any
 // bytes, any numbers and any fuse.
 #![tactic(auto)]
+
 ghost use Rattle.std.specs.Prelude.{◌≡◌, ◌+◌, ◌%◌, ◌≤◌, length};
 ghost use Rattle.rules.specs.declared.Request.TheVariants.{Activate};
 ghost use Rattle.rules.specs.Words.{word_bytes, mem};

@@ -1,5 +1,6 @@
 // Reserve: the first FREE clump that is large enough, split or whole. Takes any bytes, any size and any fuse.
 #![tactic(auto)]
+
 ghost use Rattle.std.specs.Prelude.{◌≡◌, ◌∷◌, ◌++◌, ◌+◌, ◌%◌, ◌≤◌, ◌<◌, length};
 ghost use Rattle.rules.specs.Words.{word_bytes, word_values, mem, store};
 ghost use Rattle.rules.specs.Clumps.{head, header_bytes, least_clump, slots, RESERVED};

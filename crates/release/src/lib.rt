@@ -1,6 +1,7 @@
 // Free: the request that carries out the on-list of an ACTIVE clump, or the marked entries of a RESERVED one, and gives the clump back, joined
 // to what is FREE beside it. It takes any bytes, any numbers and any fuse.
 #![tactic(auto)]
+
 ghost use Rattle.std.specs.Prelude.{◌≡◌, ◌+◌, ◌%◌, ◌≤◌, ◌<◌, length};
 ghost use Rattle.rules.specs.declared.Request.TheVariants.{Free};
 ghost use Rattle.rules.specs.Words.{word_bytes, word_values, mem};

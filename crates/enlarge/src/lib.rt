@@ -1,5 +1,6 @@
 // Grow: a live clump made larger where it stands, by the FREE clump behind it. It takes any bytes, any numbers and any fuse.
 #![tactic(auto)]
+
 ghost use Rattle.std.specs.Prelude.{◌+◌, length};
 ghost use Rattle.rules.specs.declared.Request.TheVariants.{Grow};
 ghost use Rattle.rules.specs.Words.{mem};

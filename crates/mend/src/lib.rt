@@ -1,5 +1,6 @@
 // Recover: the unfinished clump finished, RESERVED clumps released, runs of FREE clumps joined. Takes any bytes and any fuse.
 #![tactic(auto)]
+
 ghost use Rattle.std.specs.Prelude.{◌≡◌, cond, [], ◌∷◌, ◌+◌, ◌%◌, ◌≤◌, ◌<◌, length, eqb};
 ghost use Rattle.std.proofs.Math.Option.{none};
 ghost use Rattle.rules.specs.declared.Request.TheVariants.{Recover};

@@ -1,0 +1,16 @@
+-- `join_runs`: a walk that stores behind itself, with the run that it is in.
+use Rattle.std.proofs.Common.{◌-◌, ◌≤◌, length}
+use Rattle.rules.specs.Stores.{runs, joining}
+use Rattle.rules.specs.Reading.{clumps_of}
+use Rattle.laws.specs.Joins.{joins}
+use Rattle.mend.specs.Passes.{Passing, Runs}
+use Rattle.mend.proofs.join_runs.Given as goal
+
+abbrev pub invariant-loop-h : goal.invariant-loop-h
+invariant-loop-h l =
+    Passing (joins l.r.first l.r.own l.r.sum) l.initial.img l.initial.q l.img l.q l.h (joining (runs (clumps_of l.initial.img)))
+    × Runs l.h l.r
+    × (l.h ≤ length l.initial.img)
+
+abbrev pub decreases-loop-h : goal.decreases-loop-h
+decreases-loop-h l = length l.initial.img - l.h

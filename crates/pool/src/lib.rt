@@ -1,6 +1,7 @@
 // The pool: the eleven requests of documents 01 and 02, and `ask`, which takes any of them. This is the library that an owner links.
 // Every function takes any bytes, any numbers and any fuse; a refusal changes no byte. The work is done in the crates below.
 #![tactic(auto)]
+
 ghost use Rattle.rules.specs.declared.Request.TheVariants.{Create, Reserve, ReserveUncleared, Grow, Onactive, Onfree, Withdraw, Activate, Free, Recover};
 ghost use Rattle.rules.specs.Requests.{Does};
 ghost use Rattle.survey.specs.Checking.{Checks};

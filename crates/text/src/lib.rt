@@ -1,6 +1,7 @@
 // Text put into a buffer from a place on: a number in decimal with the byte behind it, and bytes as they are. Each answers with the
 // place behind what it wrote. Asks that the buffer has room. Nothing here reads input or writes output.
 #![tactic(auto)]
+
 ghost use Rattle.std.specs.Prelude.{◌+◌, ◌≤◌, length};
 ghost use Rattle.text.specs.Texts.{most_digits, field_bytes, decimal, field};
 ghost use Rattle.text.specs.Writing.{Wrote};

@@ -1,6 +1,7 @@
 // What a line of the program's input means: it is gathered byte by byte, read, and leaves a fuse for the next request.
 // `reply` has how a reply is printed. Nothing here reads input or writes output.
 #![tactic(auto)]
+
 ghost use Rattle.std.specs.Prelude.{◌≡◌, [], ◌∷◌, ◌≤◌, length};
 ghost use Rattle.std.proofs.Math.Option.{some};
 ghost use Rattle.line.specs.Lines.{fields, is_digit, number, followed, numbers, same, named, commands, command, line_of, fuse_after};

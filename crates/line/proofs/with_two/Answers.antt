@@ -1,0 +1,13 @@
+-- `with_two`: the table of names that take two numbers, entry by entry.
+use Rattle.std.proofs.Common.{rules}
+use Rattle.rules.specs.Pages.{codes}
+use Rattle.line.specs.Lines.{named, commands}
+use Rattle.line.proofs.with_two.Goals as goal
+
+pub returns-then-same : goal.returns-then-same
+unfolding named commands codes
+returns-then-same c = search rules
+
+pub returns : goal.returns
+unfolding named commands codes
+returns c = search rules

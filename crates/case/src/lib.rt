@@ -1,6 +1,7 @@
 // What the numbers of a line ask: LENGTH FILL K OFFSET1 WORD1 .. OFFSETK WORDK REQUEST A B C FUSE. Takes any numbers; those that are no
 // case are malformed. `line` has how a line is read. Nothing here reads input or asks a pool.
 #![tactic(auto)]
+
 ghost use Rattle.std.specs.Prelude.{◌≡◌};
 ghost use Rattle.case.specs.Cases.{request_of, case_of};
 
@@ -22,6 +23,7 @@ pub enum Case {
 }
 
 // The request of that number; 10 and what is above it are grow.
+#[tactic(auto, unfolding(crate::specs::Cases::request_of))]
 fn request_of(q: u64, a: u64, b: u64, c: u64) -> Request
     ensures { result ≡ request_of q a b c }
 {

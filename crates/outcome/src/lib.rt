@@ -2,6 +2,7 @@
 // takes 21 at most, with the byte behind it, so that the thirteen of a line fit. `sum` has the checksum of an image. Nothing here asks a
 // pool or writes output.
 #![tactic(auto)]
+
 ghost use Rattle.std.specs.Prelude.{◌≡◌, ◌≤◌, length};
 ghost use Rattle.text.specs.Writing.{Wrote};
 ghost use Rattle.outcome.specs.declared.Ran.TheVariants.{Done, Malformed};

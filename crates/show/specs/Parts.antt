@@ -58,8 +58,8 @@ clumps_determined v w =
     (d.0, λ i. record { count = d.1 i; next = e i })
 
 -- what the test tells
-pub one_more : (n a c : ℕ) → one_more n a c ≡ true → (a + header_bytes ≤ n) × (c + three_bytes ≤ room)
-one_more n a c e =
+pub one_more_lem : (n a c : ℕ) → one_more n a c ≡ true → (a + header_bytes ≤ n) × (c + three_bytes ≤ room)
+one_more_lem n a c e =
     let w = and_both (leb (a + header_bytes) n) (leb (c + three_bytes) room) e in
     (leb-true (a + header_bytes) n w.0, leb-true (c + three_bytes) room w.1)
 
@@ -116,7 +116,7 @@ part_leads (suc k) n m a c q = go (one_more n a c) refl (part_leads k n m (onwar
         → (n ≤ k + onward n (head m a) → Leads n m (onward n (head m a)) (c + length (head_text (head m a))) (part_after k n m a c))
         → Leads n m a c (part_in (suc k) n m a c)
     go true e ih =
-        let w = one_more n a c e in
+        let w = one_more_lem n a c e in
         let f : a < onward n (head m a) = onward_further n (head m a) (omega (arith, w.0)) in
         rw (part_more k n m a c w.0 w.1) (leads_more n m a c _ w.0 (ih (omega arith)))
     go false e ih = rw (part_none (suc k) n m a c e) (leads_none n m a c e)

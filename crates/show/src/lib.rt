@@ -1,6 +1,7 @@
 // What the program prints, put into a buffer: the reply to a request, a question mark, the clumps of an image. Takes any numbers and any
 // image. Nothing here reads input or writes output.
 #![tactic(auto)]
+
 ghost use Rattle.std.specs.Prelude.{◌≡◌, ◌+◌, ◌%◌, ◌<◌, leb, length};
 ghost use Rattle.rules.specs.Words.{mem, word_bytes};
 ghost use Rattle.rules.specs.Clumps.{header_bytes};

@@ -1,6 +1,7 @@
 // A case run: the image with its fill and its words, the request asked of it, a check of what it leaves, and the checksum. `run` takes any
 // line and any numbers; the parts below it ask for the bounds that `case_of` has tested.
 #![tactic(auto)]
+
 ghost use Rattle.std.specs.Prelude.{◌≡◌, true, ◌≤◌, length};
 ghost use Rattle.rules.specs.Words.{carry};
 ghost use Rattle.case.specs.declared.Case.TheVariants.{Asked};

@@ -121,10 +121,10 @@ fn past_highest(to: u64, end: u64) -> u64
     end
 }
 
-// A call of a C function that the optimizer does not know. For all that it can tell the function looks at the image, which is the caller's
-// memory: so each word before the call is stored by then, and none behind it. What comes back means nothing. docs/HEARD.md has the rest.
+// An instruction of the processor that changes nothing, and of which the optimizer is told nothing. For all that it can tell the instruction
+// looks at the image, which is the caller's memory: so each word before it is stored by then, and none behind it. docs/HEARD.md has the rest.
 fn witness() {
-    // TODO
+    std::hint::spin_loop();
 }
 
 // "while the fuse lasts it writes one word and takes one from the fuse, else it writes nothing"

@@ -1,6 +1,6 @@
 -- How reserve ends, once the sizes are right, in either form: the body, then the state. So until its last store the state is what it was, and
 -- the body is left blank in the first form, while no store reaches it in the second. By going along the run of zeros. Assumes nothing.
-use Rattle.std.specs.Prelude.{ℕ, ◌+◌, ◌-◌, ◌≤◌, ◌≡◌, Bool, false, cond, [], ◌∷◌}
+use Rattle.std.specs.Prelude.{ℕ, ◌+◌, ◌≤◌, ◌≡◌, Bool, false, cond, [], ◌∷◌}
 use Rattle.std.proofs.Math.Bool.{true}
 use Rattle.std.proofs.Common.{inl, inr}
 use native.Mathlib.Omega.{arith}

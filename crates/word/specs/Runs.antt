@@ -1,6 +1,6 @@
 -- Runs of stores under a fuse: `Ran` says what a run leaves, of the image and of the power. A run is joined to the next by
 -- `ran_then`, so that a request's stores are one chain of calls. Assumes nothing.
-use Rattle.std.specs.Prelude.{ℕ, zero, suc, ◌+◌, ◌-◌, ◌<◌, min, max, ◌≡◌, Bool, true, cond, List, [], ◌∷◌, ◌++◌, eqb, ltb, length, take}
+use Rattle.std.specs.Prelude.{ℕ, zero, suc, ◌+◌, ◌-◌, ◌<◌, min, ◌≡◌, Bool, true, cond, List, [], ◌∷◌, ◌++◌, eqb, ltb, length, take}
 use Rattle.std.proofs.Math.Path.{refl}
 use Rattle.std.proofs.Common.{sym, ap, ◌∙◌, arith, add-zero, zero-add, not-suc-le-zero, length-append, length-take, take_all}
 use Rattle.std.proofs.Math.Bool.{false}
@@ -9,7 +9,7 @@ use Rattle.std.proofs.Math.Decide.{dec_lt}
 use Rattle.std.proofs.Math.Seq.{take-nil}
 use Rattle.std.proofs.lemmas.List.{take-append-le}
 use borrow.Author.Tests.{ne_eqb, lt-ltb, le-ltb, ltb-true, ltb-false}
-use Rattle.rules.specs.Words.{Image, Mem, Store, Aligned, word_bytes, put, mem, upd, after, carry}
+use Rattle.rules.specs.Words.{Image, Mem, Store, Aligned, put, mem, upd, after, carry}
 use Rattle.rules.specs.declared.Answer.{Answer}
 use Rattle.rules.specs.Answers.{Flush, wider, widened, flush_of, granted, answer_at, answer_of}
 use Rattle.word.specs.Tests.{ltb_same}

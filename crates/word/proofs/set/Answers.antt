@@ -1,5 +1,4 @@
 -- `set`: a word is two halves of four bytes (`puts8`).
-use Rattle.rules.specs.Words.{put}
 use Rattle.word.specs.Parts.{puts8}
 use Rattle.word.proofs.set.Goals as goal
 

@@ -1,6 +1,7 @@
 // What a request answers: without a store, and what the power tells at its end. Each function takes any numbers and any power; none sees an
 // image.
 #![tactic(auto)]
+
 ghost use Rattle.std.specs.Prelude.{◌≡◌};
 ghost use Rattle.rules.specs.Answers.{answer_by};
 ghost use Rattle.word.specs.Runs.{range, told};

@@ -1,6 +1,7 @@
 // The need of a size, header and all: whether so many bytes have room for it, whether they are split for it, and the need itself where it fits.
 // Any size may be asked: no sum is made that could wrap. No function sees an image.
 #![tactic(auto)]
+
 ghost use Rattle.std.specs.Prelude.{◌≡◌, ◌<◌, ◌≤◌, leb};
 ghost use Rattle.rules.specs.Words.{word_values};
 ghost use Rattle.rules.specs.Stores.{need_of, is_split};

@@ -1,6 +1,7 @@
 // The page test: length, signature, total size and zero padding. Asks nothing of the image.
 // `clump` has the header of a clump, `entry` the entries of its list.
 #![tactic(auto)]
+
 ghost use Rattle.std.specs.Prelude.{◌≡◌, ◌≤◌, length};
 ghost use Rattle.rules.specs.Words.{mem, all_zero};
 ghost use Rattle.rules.specs.Pages.{clumps_at, padding_at, padding_words, right_length, is_pool};

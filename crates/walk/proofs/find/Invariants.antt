@@ -2,7 +2,7 @@
 use Rattle.std.proofs.Common.{◌-◌, length}
 use Rattle.rules.specs.Words.{mem}
 use Rattle.rules.specs.Reading.{clumps_of}
-use Rattle.rules.specs.Requests.{finder, finding}
+use Rattle.rules.specs.Requests.{finder}
 use Rattle.laws.specs.Walking.{Walking}
 use Rattle.laws.specs.Neighbours.{Passed}
 use Rattle.walk.proofs.find.Given as goal

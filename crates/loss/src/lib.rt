@@ -1,2 +1,2 @@
-// What power loss leaves: theorems about cuts, recovery and histories, in specs/. Holds no function.
+// What power loss leaves: theorems about cuts, recovery and histories, in specs/ and proofs/. Holds no function.
 #![tactic(auto)]

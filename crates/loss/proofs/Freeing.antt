@@ -17,7 +17,7 @@ use Rattle.loss.specs.Fates.{Kept, Rests}
 use Rattle.loss.specs.Calm.{ends_free, touching_parts, touching-between}
 use Rattle.loss.specs.Neighbours.{next_free, last_free, next_some, next_none, last_some, last_none}
 use Rattle.loss.specs.Merging.{merged}
-use Rattle.loss.specs.Recovering.{Comes, comes_none, comes_store}
+use Rattle.loss.proofs.Recovering.{Comes, comes_none, comes_store}
 
 module _ (n : ℕ) (D : ℕ → Type 0) (k : List Kept) (w : Mem) where
   -- the stores come to rest, with no two FREE clumps touching

@@ -27,10 +27,10 @@ use Rattle.laws.specs.Lying.{found-lies}
 use Rattle.loss.specs.Fates.{Kept, fates, Led}
 use Rattle.loss.specs.Redo.{after_spared}
 use Rattle.loss.specs.Targets.{valid_beyond, valid_entries}
-use Rattle.loss.specs.Courses.{Outside, Decides}
-use Rattle.loss.specs.Requested.{Amid, amid, activating, freeing}
-use Rattle.loss.specs.Images.{cut-mem, Leading, recovering_leading, finished-recovered}
-use Rattle.loss.specs.Histories.{Serves, serves}
+use Rattle.loss.proofs.Courses.{Outside, Decides}
+use Rattle.loss.proofs.Requested.{Amid, amid, activating, freeing}
+use Rattle.loss.proofs.Images.{cut-mem, Leading, recovering_leading, finished-recovered}
+use Rattle.loss.proofs.Histories.{Serves, serves}
 
 -- stores to words that differ: each leaves its own
 pub distinct_after : (m : Mem) (st : List Store) → Distinct st → Each (λ s. after m st s.to ≡ s.word) st

@@ -23,7 +23,7 @@ use Rattle.loss.specs.Fates.{Kept, is_kept, fates, fates_none, fates_list, Beyon
 use Rattle.loss.specs.Parts.{Elsewhere, one_store, Parted, parted_one, Segment, held_replaced, replaced}
 use Rattle.loss.specs.Emptied.{InList, slots_in}
 use Rattle.loss.specs.Entries.{Good, list_good, good_list, good_with, good_alike}
-use Rattle.loss.specs.Recovering.{Comes, comes_none, comes_store}
+use Rattle.loss.proofs.Recovering.{Comes, comes_none, comes_store}
 
 -- a valid target is in place
 valid_place : (n t : ℕ) (hs : List Head) → Tiles clumps_at hs n → is_valid hs t ≡ true → in_place n t ≡ true

@@ -21,7 +21,7 @@ use Rattle.loss.specs.Orders.{recover_order}
 use Rattle.loss.specs.Held.{held_walk, pends_seek}
 use Rattle.loss.specs.Fates.{Kept, is_kept, Rests, Leads, Led, resting, leading}
 use Rattle.loss.specs.Entries.{unjudged}
-use Rattle.loss.specs.Finishing.{finishing_led}
+use Rattle.loss.proofs.Finishing.{finishing_led}
 use Rattle.loss.specs.Turning.{state_rests}
 use Rattle.loss.specs.Joined.{whole, whole-lone, flat, flat-runs, first_each, FreeMore, FreeRun, free-runs, joined_calm}
 use Rattle.loss.specs.Merging.{merged}

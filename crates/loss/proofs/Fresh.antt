@@ -26,10 +26,10 @@ use Rattle.laws.specs.Lying.{Lies, found-lies}
 use Rattle.loss.specs.Orders.{reserve_order}
 use Rattle.loss.specs.Held.{held_walk}
 use Rattle.loss.specs.Parts.{Parted, parted_one}
-use Rattle.loss.specs.Images.{finished-mem}
-use Rattle.loss.specs.Requested.{Amid, amid, placing}
+use Rattle.loss.proofs.Images.{finished-mem}
+use Rattle.loss.proofs.Requested.{Amid, amid, placing}
 use Rattle.loss.specs.Fates.{fates, Owned}
-use Rattle.loss.specs.Reserving.{Reserved}
+use Rattle.loss.proofs.Reserving.{Reserved}
 
 -- above a clump none begins before it ends
 pub begin_above : (n : ℕ) (p : List Head) (h : Head) (q : List Head) → Tiles clumps_at (p ++ (h ∷ q)) n → Each (λ k. end_of h ≤ k.at) q

@@ -18,17 +18,17 @@ use Rattle.laws.specs.Searches.{each_append, each_left, each_right}
 use Rattle.laws.specs.Walks.{Reads}
 use Rattle.laws.specs.Stored.{reads_right}
 use Rattle.laws.specs.Bodies.{Off}
-use Rattle.loss.specs.Ending.{part_of}
+use Rattle.loss.proofs.Ending.{part_of}
 use Rattle.loss.specs.Orders.{grow_order}
 use Rattle.loss.specs.Held.{Held, Idle}
 use Rattle.loss.specs.Fates.{Kept, fates, Owned, Rests}
 use Rattle.loss.specs.Parts.{one_store, parted, held_replaced}
 use Rattle.loss.specs.Entries.{good_alike, list_good, good_list, unjudged}
 use Rattle.loss.specs.Calm.{touching_like, touching_sides, touching-live}
-use Rattle.loss.specs.Recovering.{Comes, comes_none, comes_store}
-use Rattle.loss.specs.Reserving.{inner}
+use Rattle.loss.proofs.Recovering.{Comes, comes_none, comes_store}
+use Rattle.loss.proofs.Reserving.{inner}
 use Rattle.loss.specs.Owning.{owned_off, owned_beyond, rests_as}
-use Rattle.loss.specs.Courses.{Course, never, course_last}
+use Rattle.loss.proofs.Courses.{Course, never, course_last}
 
 -- the clump h between p and q, with the FREE clump next behind it
 module _ (n : ℕ) (p : List Head) (h next : Head) (q : List Head) (free : is_free next ≡ true) where

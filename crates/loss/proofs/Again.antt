@@ -19,7 +19,7 @@ use Rattle.loss.specs.Held.{held_walk, idle_sound}
 use Rattle.loss.specs.Fates.{Kept, Owned}
 use Rattle.loss.specs.Joined.{calm_joins}
 use Rattle.loss.specs.Owning.{own_fate}
-use Rattle.loss.specs.Images.{recover_stores_lem, Recovered, finished-recovered}
+use Rattle.loss.proofs.Images.{recover_stores_lem, Recovered, finished-recovered}
 
 -- nothing reserved, nothing to release
 freed_none : (hs : List Head) → Each (λ h. has_state RESERVED h ≡ false) hs → map freed hs ≡ hs

@@ -27,9 +27,9 @@ use Rattle.laws.specs.Named.{Miss, carry_miss}
 use Rattle.loss.specs.Orders.{reserve_order, end_order}
 use Rattle.loss.specs.Redo.{Spares}
 use Rattle.loss.specs.Blanked.{Leaves, leaves_behind, Late, late_behind}
-use Rattle.loss.specs.Images.{cut-mem}
-use Rattle.loss.specs.Ending.{part_of, Blank, end_late, end_blank, end_spared}
-use Rattle.loss.specs.Fresh.{lies, number, stores_are, memory_is, left, place_is, made, was_free}
+use Rattle.loss.proofs.Images.{cut-mem}
+use Rattle.loss.proofs.Ending.{part_of, Blank, end_late, end_blank, end_spared}
+use Rattle.loss.proofs.Fresh.{lies, number, stores_are, memory_is, left, place_is, made, was_free}
 
 -- the sizes, which come first
 abbrev sizing_by : Bool → ℕ → Head → List Store

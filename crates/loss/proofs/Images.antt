@@ -20,7 +20,7 @@ use Rattle.loss.specs.Orders.{recover_order}
 use Rattle.loss.specs.Cuts.{every_cut}
 use Rattle.loss.specs.Fates.{Kept, Rests, Led}
 use Rattle.loss.specs.Readings.{Calm}
-use Rattle.loss.specs.Recovering.{recovers}
+use Rattle.loss.proofs.Recovering.{recovers}
 use Rattle.loss.specs.Owning.{led_sound}
 
 pub cut-mem : (img : Image) (q : Request) (k : ℕ) → Bytes img → Numbers q → mem (cut img q k) ≡ after (mem img) (take k (stores_for img q))

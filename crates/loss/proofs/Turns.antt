@@ -29,15 +29,15 @@ use Rattle.loss.specs.Redo.{after-at}
 use Rattle.loss.specs.Emptied.{InList, slots_in, all_emptied, Fades, fades, faded_listing}
 use Rattle.loss.specs.Entries.{InOrder, Good, list_good, good_list, good_alike, unjudged}
 use Rattle.loss.specs.Targets.{valid_entries, entries_valid}
-use Rattle.loss.specs.Finishing.{activated_led, freed_led}
+use Rattle.loss.proofs.Finishing.{activated_led, freed_led}
 use Rattle.loss.specs.Turning.{state_rests, begins}
 use Rattle.loss.specs.Calm.{touching_sides, touching_like}
 use Rattle.loss.specs.Neighbours.{next_free, last_free, free-after, free_before_lem}
-use Rattle.loss.specs.Freeing.{Ends, both_joined}
-use Rattle.loss.specs.Recovering.{Comes, comes_none, comes_then}
-use Rattle.loss.specs.Listing.{emptying_comes}
+use Rattle.loss.proofs.Freeing.{Ends, both_joined}
+use Rattle.loss.proofs.Recovering.{Comes, comes_none, comes_then}
+use Rattle.loss.proofs.Listing.{emptying_comes}
 use Rattle.loss.specs.Owning.{rests_as, leads_as, owned_beyond}
-use Rattle.loss.specs.Courses.{Outside, Decides, decides}
+use Rattle.loss.proofs.Courses.{Outside, Decides, decides}
 
 -- a state that waits, and is not the one
 other : (b : Bool) {c : Bool} → (b || c) ≡ true → c ≡ false → b ≡ true

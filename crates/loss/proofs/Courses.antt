@@ -13,7 +13,7 @@ use Rattle.loss.specs.Cuts.{every_start, every_cut}
 use Rattle.loss.specs.Held.{Held, Idle, held_walk, idle_sound}
 use Rattle.loss.specs.Fates.{Kept, fates, Beyond, Owned, Rests, Led, resting, leading}
 use Rattle.loss.specs.Owning.{owned_beyond, SameFate, led_sound}
-use Rattle.loss.specs.Recovering.{Comes}
+use Rattle.loss.proofs.Recovering.{Comes}
 
 -- the stores st of a request on m; `through` tells of each number of them whether so many are enough to carry it through
 pub record Course (n : ℕ) (m : Mem) (through : ℕ → Bool) (st : List Store) : Type 0 where

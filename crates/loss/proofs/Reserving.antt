@@ -18,7 +18,7 @@ use Rattle.word.specs.Memory.{upd_same, upd_other}
 use Rattle.laws.specs.Searches.{each_right}
 use Rattle.laws.specs.Stored.{with_state, reads_right}
 use Rattle.laws.specs.Clearing.{cleared_room}
-use Rattle.loss.specs.Ending.{part_of}
+use Rattle.loss.proofs.Ending.{part_of}
 use Rattle.loss.specs.Orders.{reserve_order, end_order}
 use Rattle.loss.specs.Fates.{Kept, fates_none, Beyond, Rests}
 use Rattle.loss.specs.Parts.{one_store, parted_one, replaced}
@@ -28,7 +28,7 @@ use Rattle.loss.specs.Entries.{unjudged, Bare, bare_good, bare_front}
 use Rattle.loss.specs.Turning.{state_rests}
 use Rattle.loss.specs.Merging.{free_loose}
 use Rattle.loss.specs.Calm.{touching_taken, touching_split}
-use Rattle.loss.specs.Recovering.{Comes, comes_none, comes_store}
+use Rattle.loss.proofs.Recovering.{Comes, comes_none, comes_store}
 
 -- what reserve leaves of the FREE clump h, between p and q
 pub record Reserved (clears : Bool) (n : ℕ) (D : ℕ → Type 0) (k : List Kept) (w m : Mem) (p : List Head) (h : Head) (q : List Head) (need : ℕ) : Type 0 where

@@ -29,14 +29,14 @@ use Rattle.laws.specs.Headers.{each_slot, SameSlot, SameSlots, listing-same}
 use Rattle.laws.specs.Lying.{Lies, found-lies}
 use Rattle.laws.specs.Named.{Miss, carry_miss}
 use Rattle.laws.specs.Granted.{Enlarges, enough, takes, Grows, Granted, done_granted}
-use Rattle.loss.specs.Ending.{part_of}
+use Rattle.loss.proofs.Ending.{part_of}
 use Rattle.loss.specs.Orders.{grow_order}
 use Rattle.loss.specs.Redo.{Spares, after_spared}
 use Rattle.loss.specs.Held.{held_walk}
-use Rattle.loss.specs.Images.{finished-mem}
-use Rattle.loss.specs.Growing.{Enlarged}
-use Rattle.loss.specs.Fresh.{begin_above, found_there, around}
-use Rattle.loss.specs.Requested.{Amid, amid, enlarging}
+use Rattle.loss.proofs.Images.{finished-mem}
+use Rattle.loss.proofs.Growing.{Enlarged}
+use Rattle.loss.proofs.Fresh.{begin_above, found_there, around}
+use Rattle.loss.proofs.Requested.{Amid, amid, enlarging}
 
 -- where its stores go: to no byte of the body that it leaves, and to no word of the list
 module _ (need : ℕ) (h next : Head) (l : h.nbytes ≤ need) where

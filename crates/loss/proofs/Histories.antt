@@ -26,9 +26,9 @@ use Rattle.loss.specs.Fates.{Kept, Owned, Rests, Led}
 use Rattle.loss.specs.Calm.{one_more}
 use Rattle.loss.specs.Readings.{reads_same}
 use Rattle.loss.specs.Owning.{own_fate, led_sound}
-use Rattle.loss.specs.Courses.{Course, held_calm, calm_idle}
-use Rattle.loss.specs.Requested.{courses}
-use Rattle.loss.specs.Images.{cut-mem, finished-mem, Leading, recovering_leading, Recovered, finished-recovered}
+use Rattle.loss.proofs.Courses.{Course, held_calm, calm_idle}
+use Rattle.loss.proofs.Requested.{courses}
+use Rattle.loss.proofs.Images.{cut-mem, finished-mem, Leading, recovering_leading, Recovered, finished-recovered}
 use Rattle.loss.specs.Creating.{creation}
 
 -- an image in which requests are served, of bytes

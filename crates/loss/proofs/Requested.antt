@@ -32,13 +32,13 @@ use Rattle.loss.specs.Orders.{reserve_order, grow_order, list_order, recover_ord
 use Rattle.loss.specs.Held.{Held, Idle, sound_held}
 use Rattle.loss.specs.Fates.{fates, Owned, Rests}
 use Rattle.loss.specs.Neighbours.{free-after, next_some}
-use Rattle.loss.specs.Reserving.{Reserved, reserves}
-use Rattle.loss.specs.Growing.{Enlarged, enlarges}
-use Rattle.loss.specs.Listing.{value_rests, target_held, withdrawn_held}
+use Rattle.loss.proofs.Reserving.{Reserved, reserves}
+use Rattle.loss.proofs.Growing.{Enlarged, enlarges}
+use Rattle.loss.proofs.Listing.{value_rests, target_held, withdrawn_held}
 use Rattle.loss.specs.Owning.{owned_off, owned_beyond, rests_as, own_fate}
-use Rattle.loss.specs.Recovering.{comes_none, comes_store, recovers}
-use Rattle.loss.specs.Courses.{Course, never, Decides, calm_idle, course_none, course_comes, course_last, course_decides}
-use Rattle.loss.specs.Turns.{activate_decides, free_decides}
+use Rattle.loss.proofs.Recovering.{comes_none, comes_store, recovers}
+use Rattle.loss.proofs.Courses.{Course, never, Decides, calm_idle, course_none, course_comes, course_last, course_decides}
+use Rattle.loss.proofs.Turns.{activate_decides, free_decides}
 
 -- a clump of a settled pool, with the clumps below and above it
 pub record Amid (n : ℕ) (m : Mem) (h : Head) : Type 0 where

@@ -1,9 +1,13 @@
-// Reading and writing on a file descriptor, so that no failure goes by unnoticed: it is told in one line on standard error, which names
-// what failed and why. A call that a signal interrupts is made again, and a write that takes only a part goes on with the rest.
-// Assumes of `libc::read` and `libc::write` what the kit says of them, which is how many bytes they move. Which bytes those are no
+// Reading and writing, so that no failure goes by unnoticed: it is told in one line on standard error, which names what failed and
+// why. A call that a signal interrupts is made again, and a write that takes only a part goes on with the rest.
+// Assumes of `Read::read` and `Print::write_some` what std says of them, which is how many bytes they move. Which bytes those are no
 // contract can say.
 #![tactic(auto)]
-ghost use Rattle.io.specs.Counts.{IsPrefixLen};
+
+ghost use Rattle.std.specs.Prelude.{◌≡◌, ◌≤◌, length, take};
+
+use std::fmt::InlineText;
+use std::io::{Error, ErrorKind, Read};
 
 // What a read brought: how many bytes, none at the end of the input; or that it failed, which is told already.
 #[derive(Clone, Copy)]
@@ -12,62 +16,80 @@ pub struct Got {
     pub failed: bool,
 }
 
-// Whether the call that just failed was only interrupted.
-fn interrupted() -> bool {
-    os::errno() == libc::EINTR
+// Tells on standard error what failed and why. What the system says of an error stands in front of its number, which is left out.
+pub fn fail(rt: &impl Eprint, what: &str, error: Error) {
+    let text = InlineText::<256>::of(&error);
+    let all = text.as_str();
+    let why = match all.split_once(" (os error ") {
+        Some((said, _)) => said,
+        None => all,
+    };
+    // Where this cannot be written either, nobody is left to be told.
+    let _ = eprintln!(rt; "{what}: {why}");
 }
 
-// Reads once. `what` is the name that a failure is told under. A proved loop has to end, so that it counts its turns down from a number
+// Whether the call that just failed was only interrupted.
+fn interrupted(error: &Error) -> bool {
+    error.kind() == ErrorKind::Interrupted
+}
+
+// Reads once. `what` is the name that a failure is told under. A proved loop has to end, so that it counts its turns, up to a number
 // that no run uses up.
-pub fn read_some(fd: i32, what: &[u8], chunk: &mut [u8]) -> Got
-    ensures { IsPrefixLen result.count chunk.new }
+pub fn read_some<I: Read>(rt: &impl Eprint, input: &mut I, what: &str, chunk: &mut [u8]) -> Got
+    ensures within { result.count ≤ length chunk.new }
+    ensures part { result.count ≡ length (take result.count chunk.new) }
 {
-    let mut turns = u64::MAX;
-    while turns > 0 {
-        let got = libc::read(fd, chunk);
-        if got >= 0 {
-            return Got {
-                count: io::count(got, chunk),
-                failed: false,
-            };
+    let mut why = Error::from(ErrorKind::Interrupted);
+    for _ in 0..u64::MAX {
+        match input.read(chunk) {
+            Ok(count) => {
+                return Got {
+                    count,
+                    failed: false,
+                };
+            }
+            Err(error) => why = error,
         }
-        if !interrupted() {
+        if !interrupted(&why) {
             break;
         }
-        turns -= 1;
     }
-    os::fail(what);
+    fail(rt, what, why);
     Got {
         count: 0,
         failed: true,
     }
 }
 
-// Writes a part, and answers with how many bytes were taken; 0 where the write failed, which is told already. One that takes nothing
-// counts as failed.
-fn write_some(fd: i32, what: &[u8], bytes: &[u8]) -> usize
-    ensures { IsPrefixLen result bytes.now }
+// Writes a part on standard output, and answers with how many bytes were taken; 0 where the write failed, which is told already. One
+// that takes nothing counts as failed.
+fn write_some(rt: &(impl Print + Eprint), bytes: &[u8]) -> usize
+    ensures { result ≤ length bytes.now }
 {
-    let mut turns = u64::MAX;
-    while turns > 0 {
-        let put = libc::write(fd, bytes);
-        if put > 0 {
-            return io::count(put, bytes);
+    let mut why = Error::from(ErrorKind::Interrupted);
+    for _ in 0..u64::MAX {
+        match rt.write_some(bytes) {
+            Ok(put) => {
+                if put > 0 {
+                    return put;
+                }
+                why = Error::from(ErrorKind::WriteZero);
+            }
+            Err(error) => why = error,
         }
-        if !interrupted() {
+        if !interrupted(&why) {
             break;
         }
-        turns -= 1;
     }
-    os::fail(what);
+    fail(rt, "standard output", why);
     0
 }
 
-// Writes all of the bytes. False where a write failed.
-pub fn write_whole(fd: i32, what: &[u8], bytes: &[u8]) -> bool {
+// Writes all of the bytes on standard output. False where a write failed.
+pub fn write_whole(rt: &(impl Print + Eprint), bytes: &[u8]) -> bool {
     let mut done: usize = 0;
     while done < bytes.len() {
-        let put = write_some(fd, what, &bytes[done..]);
+        let put = write_some(rt, &bytes[done..]);
         if put == 0 {
             return false;
         }

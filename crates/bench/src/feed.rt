@@ -21,22 +21,28 @@ pub struct Held {
 }
 
 // The line that is held.
-fn held_line(img: &mut [u8], buf: &[u8], h: Held) -> Obeyed
+fn held_line(rt: &(impl Print + Eprint), img: &mut [u8], buf: &[u8], h: Held) -> Obeyed
     requires { h.count ≤ length buf.now }
     ensures img_after { img.new ≡ image_after img.old (line_of (take h.count buf.now)) h.fuse }
     ensures fuse_value { result.fuse ≡ fuse_after h.fuse (line_of (take h.count buf.now)) }
 {
     let count = h.count;
-    obey::line_end(img, &buf[..count], h.fuse)
+    obey::line_end(rt, img, &buf[..count], h.fuse)
 }
 
 // A byte: a newline ends the line, and any other is held.
-fn byte(img: &mut [u8], buf: &mut [u8; 201], h: Held, b: u8) -> Held
+fn byte(
+    rt: &(impl Print + Eprint),
+    img: &mut [u8],
+    buf: &mut [u8; 201],
+    h: Held,
+    b: u8,
+) -> Held
     requires { h.count ≤ kept }
     ensures { Follows img.old buf.old h (b ∷ []) img.new buf.new result }
 {
     if b == NEWLINE {
-        let o = held_line(img, buf, h);
+        let o = held_line(rt, img, buf, h);
         return Held {
             count: 0,
             fuse: o.fuse,
@@ -51,7 +57,13 @@ fn byte(img: &mut [u8], buf: &mut [u8; 201], h: Held, b: u8) -> Held
 }
 
 // The bytes of a chunk, one after the other, up to where a write failed.
-pub fn bytes(img: &mut [u8], buf: &mut [u8; 201], h: Held, chunk: &[u8]) -> Held
+pub fn bytes(
+    rt: &(impl Print + Eprint),
+    img: &mut [u8],
+    buf: &mut [u8; 201],
+    h: Held,
+    chunk: &[u8],
+) -> Held
     requires { h.count ≤ kept }
     ensures { Fed img.old buf.old h chunk.now img.new buf.new result }
 {
@@ -61,18 +73,18 @@ pub fn bytes(img: &mut [u8], buf: &mut [u8; 201], h: Held, chunk: &[u8]) -> Held
         if !held.said {
             return held;
         }
-        held = byte(img, buf, held, chunk[i]);
+        held = byte(rt, img, buf, held, chunk[i]);
         i += 1;
     }
     held
 }
 
 // The end of the input: a last line that no newline ended counts if it has a byte.
-pub fn rest(img: &mut [u8], buf: &[u8; 201], h: Held)
+pub fn rest(rt: &(impl Print + Eprint), img: &mut [u8], buf: &[u8; 201], h: Held)
     requires { h.count ≤ kept }
     ensures { (s : Dialogue) → Stands img.old buf.now h s → img.new ≡ (line_ended s).image }
 {
     if h.count > 0 {
-        held_line(img, buf, h);
+        held_line(rt, img, buf, h);
     }
 }

@@ -3,37 +3,38 @@
 // Which bytes are read and written no contract can say: that is seen in the code and in the file `stdout`. Where a read or a write
 // fails the program ends, and `streams` tells why in one line on standard error; a read that fails is not the end of the input.
 #![tactic(auto)]
-ghost use Rattle.io.specs.Counts.{IsPrefixLen};
+ghost use Rattle.std.specs.Prelude.{◌≡◌, ◌≤◌, length, take};
 ghost use Rattle.bench.specs.Inputs.{Ended};
 
 use feed::Held;
-use libc::STDIN_FILENO;
+use std::io::Read;
 use streams::Got;
 
 mod feed;
 
 // Reads once.
-fn read_some(chunk: &mut [u8]) -> Got
-    ensures { IsPrefixLen result.count chunk.new }
+fn read_some<I: Read>(rt: &impl Eprint, input: &mut I, chunk: &mut [u8]) -> Got
+    ensures within { result.count ≤ length chunk.new }
+    ensures part { result.count ≡ length (take result.count chunk.new) }
 {
-    streams::read_some(STDIN_FILENO, b"standard input", chunk)
+    streams::read_some(rt, input, "standard input", chunk)
 }
 
-// The whole input, a chunk at a time. A proved loop has to end, and nothing says that the input does, so that it counts its turns
-// down from a number that no run uses up.
-fn run(img: &mut [u8])
+// The whole input, a chunk at a time. A proved loop has to end, and nothing says that the input does, so that it counts its turns, up
+// to a number that no run uses up.
+fn run(rt: &(impl Input + Print + Eprint), img: &mut [u8])
     ensures { Ended img.old img.new }
 {
+    let mut input = rt.reader();
     let mut buf = [0u8; 201];
-    let mut chunk = io::buffer();
+    let mut chunk = [0u8; 4096];
     let mut held = Held {
         count: 0,
         fuse: u64::MAX,
         said: true,
     };
-    let mut turns = u64::MAX;
-    while turns > 0 {
-        let got = read_some(&mut chunk);
+    for _ in 0..u64::MAX {
+        let got = read_some(rt, &mut input, &mut chunk);
         if got.failed {
             return;
         }
@@ -41,18 +42,17 @@ fn run(img: &mut [u8])
         if n == 0 {
             break;
         }
-        held = feed::bytes(img, &mut buf, held, &chunk[..n]);
+        held = feed::bytes(rt, img, &mut buf, held, &chunk[..n]);
         if !held.said {
             return;
         }
-        turns -= 1;
     }
-    feed::rest(img, &buf, held);
+    feed::rest(rt, img, &buf, held);
 }
 
 // The pool is created silently, with a fuse that lasts.
-fn main() {
+fn main(rt: HostRuntime) {
     let mut img = [0u8; 32768];
     pool::create(&mut img, u64::MAX);
-    run(&mut img);
+    run(&rt, &mut img);
 }

@@ -18,27 +18,27 @@ pub struct Obeyed {
 
 // "A request prints answer, place and stores; `walk` prints offset, nbytes and state of each clump." A fuse prints nothing. Answers
 // whether all was written.
-pub fn obey(img: &mut [u8], l: Line, fuse: u64) -> bool
+pub fn obey(rt: &(impl Print + Eprint), img: &mut [u8], l: Line, fuse: u64) -> bool
     ensures { img.new ≡ image_after img.old l fuse }
 {
     match l {
         Line::Ask { q } => {
             let a = pool::ask(img, q, fuse);
-            say::reply(a)
+            say::reply(rt, a)
         }
         Line::Fuse { k: _ } => true,
-        Line::Walk => say::clumps(img),
-        Line::Bad => say::question(),
+        Line::Walk => say::clumps(rt, img),
+        Line::Bad => say::question(rt),
     }
 }
 
 // A whole line, without its newline.
-pub fn line_end(img: &mut [u8], text: &[u8], fuse: u64) -> Obeyed
+pub fn line_end(rt: &(impl Print + Eprint), img: &mut [u8], text: &[u8], fuse: u64) -> Obeyed
     ensures img_after { img.new ≡ image_after img.old (line_of text.now) fuse }
     ensures fuse_value { result.fuse ≡ fuse_after fuse (line_of text.now) }
 {
     let l = line::read(text);
-    let said = obey(img, l, fuse);
+    let said = obey(rt, img, l, fuse);
     Obeyed {
         fuse: line::fuse_after(fuse, l),
         said,

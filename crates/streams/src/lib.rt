@@ -1,13 +1,12 @@
 // Reading and writing, so that no failure goes by unnoticed: it is told in one line on standard error, which names what failed and
 // why. A call that a signal interrupts is made again, and a write that takes only a part goes on with the rest.
-// Assumes of `Read::read` and `Print::write_some` what std says of them, which is how many bytes they move. Which bytes those are no
-// contract can say.
+// Assumes of `read` and `write` what std says of them, which is how many bytes they move. Which bytes those are no contract says.
 #![tactic(auto)]
 
 ghost use Rattle.std.specs.Prelude.{◌≡◌, ◌≤◌, length, take};
 
 use std::fmt::InlineText;
-use std::io::{Error, ErrorKind, Read};
+use std::io::{Error, ErrorKind, Read, Write};
 
 // What a read brought: how many bytes, none at the end of the input; or that it failed, which is told already.
 #[derive(Clone, Copy)]
@@ -61,14 +60,15 @@ pub fn read_some<I: Read>(rt: &impl Eprint, input: &mut I, what: &str, chunk: &m
     }
 }
 
-// Writes a part on standard output, and answers with how many bytes were taken; 0 where the write failed, which is told already. One
-// that takes nothing counts as failed.
-fn write_some(rt: &(impl Print + Eprint), bytes: &[u8]) -> usize
-    ensures { result ≤ length bytes.now }
+// Writes a part, and answers with how many bytes were taken; 0 where the write failed, which is told already. One that takes nothing
+// counts as failed.
+fn write_some<O: Write>(rt: &impl Eprint, output: &mut O, what: &str, bytes: &[u8]) -> usize
+    ensures within { result ≤ length bytes.now }
+    ensures part { result ≡ length (take result bytes.now) }
 {
     let mut why = Error::from(ErrorKind::Interrupted);
     for _ in 0..u64::MAX {
-        match rt.write_some(bytes) {
+        match output.write(bytes) {
             Ok(put) => {
                 if put > 0 {
                     return put;
@@ -81,15 +81,15 @@ fn write_some(rt: &(impl Print + Eprint), bytes: &[u8]) -> usize
             break;
         }
     }
-    fail(rt, "standard output", why);
+    fail(rt, what, why);
     0
 }
 
-// Writes all of the bytes on standard output. False where a write failed.
-pub fn write_whole(rt: &(impl Print + Eprint), bytes: &[u8]) -> bool {
+// Writes all of the bytes. False where a write failed.
+pub fn write_whole<O: Write>(rt: &impl Eprint, output: &mut O, what: &str, bytes: &[u8]) -> bool {
     let mut done: usize = 0;
     while done < bytes.len() {
-        let put = write_some(rt, &bytes[done..]);
+        let put = write_some(rt, output, what, &bytes[done..]);
         if put == 0 {
             return false;
         }

@@ -8,14 +8,17 @@ ghost use Rattle.std.specs.Prelude.{◌≡◌, true};
 ghost use Rattle.vectors.specs.Steps.{place, line_next, numbers_next, read_on};
 
 use case::line::{Line, Reading};
-use libc::STDOUT_FILENO;
 use outcome::Ran;
+use std::env::{Env, FillError};
+use std::io::{Error, Read};
+use std::rt::Files;
+use std::{fs, io, str};
 
 // Prints the line of a case. False where the write failed, which is told already.
-fn print(case: u64, ran: Ran) -> bool {
+fn print(rt: &(impl Print + Eprint), case: u64, ran: Ran) -> bool {
     let mut out = [0u8; 288];
     let n = outcome::line(&mut out, case, ran);
-    streams::write_whole(STDOUT_FILENO, b"standard output", &out[..n])
+    streams::write_whole(rt, &mut io::writer(rt), "standard output", &out[..n])
 }
 
 // What bytes lead to: the line under way, and whether every line before it could be printed. Where one could not, the program ends.
@@ -26,12 +29,12 @@ struct Taken {
 }
 
 // One byte. At the end of a line its case is run and printed.
-fn take(l: Line, b: u8, numbers: &mut [u64; 256]) -> Taken
+fn take(rt: &(impl Print + Eprint), l: Line, b: u8, numbers: &mut [u64; 256]) -> Taken
     ensures { (result.line ≡ line_next l b) × (numbers.new ≡ numbers_next l b numbers.old) }
 {
     if b == b'\n' {
         let whole = case::line::put(l, numbers);
-        let ok = print(l.case, trial::run(whole, numbers));
+        let ok = print(rt, l.case, trial::run(whole, numbers));
         return Taken {
             line: Line::new(case::line::next(l.case)),
             ok,
@@ -44,13 +47,18 @@ fn take(l: Line, b: u8, numbers: &mut [u64; 256]) -> Taken
 }
 
 // The bytes of a chunk, one after the other, up to the first line that could not be printed.
-fn take_all(l: Line, bytes: &[u8], numbers: &mut [u64; 256]) -> Taken
+fn take_all(
+    rt: &(impl Print + Eprint),
+    l: Line,
+    bytes: &[u8],
+    numbers: &mut [u64; 256],
+) -> Taken
     ensures { result.ok ≡ true → place result.line numbers.new ≡ read_on (place l numbers.old) bytes.now }
 {
     let mut here = l;
     let mut i: usize = 0;
     while i < bytes.len() {
-        let taken = take(here, bytes[i], numbers);
+        let taken = take(rt, here, bytes[i], numbers);
         if !taken.ok {
             return taken;
         }
@@ -72,9 +80,15 @@ enum Step {
 }
 
 // Reads once and takes what came.
-fn read_some(fd: i32, path: &[u8], l: Line, numbers: &mut [u64; 256]) -> Step {
-    let mut buf = io::large_buffer();
-    let got = streams::read_some(fd, path, &mut buf);
+fn read_some<I: Read>(
+    rt: &(impl Print + Eprint),
+    input: &mut I,
+    path: &str,
+    l: Line,
+    numbers: &mut [u64; 256],
+) -> Step {
+    let mut buf = [0u8; 65536];
+    let got = streams::read_some(rt, input, path, &mut buf);
     if got.failed {
         return Step::Failed;
     }
@@ -82,7 +96,7 @@ fn read_some(fd: i32, path: &[u8], l: Line, numbers: &mut [u64; 256]) -> Step {
     if n == 0 {
         return Step::End;
     }
-    let taken = take_all(l, &buf[..n], numbers);
+    let taken = take_all(rt, l, &buf[..n], numbers);
     if !taken.ok {
         return Step::Failed;
     }
@@ -91,48 +105,59 @@ fn read_some(fd: i32, path: &[u8], l: Line, numbers: &mut [u64; 256]) -> Step {
 }
 
 // A line that nothing ends is malformed. Nothing comes after it, so that it makes no difference whether it could be printed.
-fn end(l: Line) {
+fn end(rt: &(impl Print + Eprint), l: Line) {
     let r = l.reading;
     if l.count == 0 {
         if let Reading::Nothing = r {
             return;
         }
     }
-    print(l.case, Ran::Malformed);
+    print(rt, l.case, Ran::Malformed);
 }
 
 // The whole file, a chunk at a time. Only at its end is the line under way one that nothing ends; after a failure nobody knows.
-// A proved loop has to end, and nothing says that a file does. So the loop counts its turns down, from a number that no run uses up.
-fn read_all(fd: i32, path: &[u8]) {
+// A proved loop has to end, and nothing says that a file does. So the loop counts its turns, up to a number that no run uses up.
+fn read_all<I: Read>(rt: &(impl Print + Eprint), input: &mut I, path: &str) {
     let mut numbers = [0u64; 256];
     let mut line = Line::new(1);
-    let mut turns: u64 = 18446744073709551615;
-    while turns > 0 {
-        let s = read_some(fd, path, line, &mut numbers);
+    for _ in 0..u64::MAX {
+        let s = read_some(rt, input, path, line, &mut numbers);
         match s {
             Step::More(l) => line = l,
             Step::End => {
-                end(line);
+                end(rt, line);
                 return;
             }
             Step::Failed => return,
         }
-        turns -= 1;
     }
 }
 
-fn main() {
-    let mut path = io::buffer();
-    let length = os::arg(1, &mut path);
-    if os::errno() != 0 {
-        os::fail(b"cases");
-        return;
+// What the system calls an argument that is not there, and one that is longer than any path.
+const INVALID_ARGUMENT: i32 = 22;
+
+const NAME_TOO_LONG: i32 = 36;
+
+// Runs the cases of the file of this name.
+fn run(rt: &(impl Files + Print + Eprint), path: &str) {
+    match fs::open(rt, path) {
+        Ok(mut file) => read_all(rt, &mut file, path),
+        Err(error) => streams::fail(rt, path, error),
     }
-    let fd = os::open_read(&path[..length]);
-    if fd < 0 {
-        os::fail(&path[..length]);
-        return;
+}
+
+fn main(rt: HostRuntime) {
+    let mut name = [0u8; 4096];
+    match rt.arg(1, &mut name) {
+        Ok(length) => match str::from_utf8(&name[..length]) {
+            Ok(path) => run(&rt, path),
+            Err(_) => streams::fail(&rt, "cases", Error::from_raw_os_error(INVALID_ARGUMENT)),
+        },
+        Err(FillError::TooLong) => {
+            streams::fail(&rt, "cases", Error::from_raw_os_error(NAME_TOO_LONG))
+        }
+        Err(FillError::NotPresent) => {
+            streams::fail(&rt, "cases", Error::from_raw_os_error(INVALID_ARGUMENT))
+        }
     }
-    read_all(fd, &path[..length]);
-    libc::close(fd);
 }

@@ -31,13 +31,7 @@ fn held_line(rt: &(impl Print + Eprint), img: &mut [u8], buf: &[u8], h: Held) ->
 }
 
 // A byte: a newline ends the line, and any other is held.
-fn byte(
-    rt: &(impl Print + Eprint),
-    img: &mut [u8],
-    buf: &mut [u8; 201],
-    h: Held,
-    b: u8,
-) -> Held
+fn byte(rt: &(impl Print + Eprint), img: &mut [u8], buf: &mut [u8; 201], h: Held, b: u8) -> Held
     requires { h.count ≤ kept }
     ensures { Follows img.old buf.old h (b ∷ []) img.new buf.new result }
 {

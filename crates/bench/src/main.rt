@@ -3,6 +3,7 @@
 // Which bytes are read and written no contract can say: that is seen in the code and in the file `stdout`. Where a read or a write
 // fails the program ends, and `streams` tells why in one line on standard error; a read that fails is not the end of the input.
 #![tactic(auto)]
+
 ghost use Rattle.std.specs.Prelude.{◌≡◌, ◌≤◌, length, take};
 ghost use Rattle.bench.specs.Inputs.{Ended};
 

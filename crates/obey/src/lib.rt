@@ -1,6 +1,7 @@
 // What the program does with a line: it is read, obeyed, and leaves a fuse for the next. Takes any image, any line and any fuse.
 // The contracts say what becomes of the image and of the fuse. What is printed is in those of `show`.
 #![tactic(auto)]
+
 ghost use Rattle.std.specs.Prelude.{◌≡◌};
 ghost use Rattle.line.specs.Lines.{line_of, fuse_after};
 ghost use Rattle.obey.specs.Obeying.{image_after};

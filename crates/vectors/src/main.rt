@@ -4,6 +4,7 @@
 // every contract; what becomes of the bytes that were read is in the contracts of `take_all` and of the crates `case`, `trial` and
 // `outcome`.
 #![tactic(auto)]
+
 ghost use Rattle.std.specs.Prelude.{◌≡◌, true};
 ghost use Rattle.vectors.specs.Steps.{place, line_next, numbers_next, read_on};
 
@@ -47,12 +48,7 @@ fn take(rt: &(impl Print + Eprint), l: Line, b: u8, numbers: &mut [u64; 256]) ->
 }
 
 // The bytes of a chunk, one after the other, up to the first line that could not be printed.
-fn take_all(
-    rt: &(impl Print + Eprint),
-    l: Line,
-    bytes: &[u8],
-    numbers: &mut [u64; 256],
-) -> Taken
+fn take_all(rt: &(impl Print + Eprint), l: Line, bytes: &[u8], numbers: &mut [u64; 256]) -> Taken
     ensures { result.ok ≡ true → place result.line numbers.new ≡ read_on (place l numbers.old) bytes.now }
 {
     let mut here = l;
@@ -133,10 +129,12 @@ fn read_all<I: Read>(rt: &(impl Print + Eprint), input: &mut I, path: &str) {
     }
 }
 
-// What the system calls an argument that is not there, and one that is longer than any path.
+// What the system calls an argument that is not there, one that is longer than any path, and bytes that are no text.
 const INVALID_ARGUMENT: i32 = 22;
 
 const NAME_TOO_LONG: i32 = 36;
+
+const NO_TEXT: i32 = 84;
 
 // Runs the cases of the file of this name.
 fn run(rt: &(impl Files + Print + Eprint), path: &str) {
@@ -148,16 +146,16 @@ fn run(rt: &(impl Files + Print + Eprint), path: &str) {
 
 fn main(rt: HostRuntime) {
     let mut name = [0u8; 4096];
-    match rt.arg(1, &mut name) {
-        Ok(length) => match str::from_utf8(&name[..length]) {
-            Ok(path) => run(&rt, path),
-            Err(_) => streams::fail(&rt, "cases", Error::from_raw_os_error(INVALID_ARGUMENT)),
-        },
-        Err(FillError::TooLong) => {
-            streams::fail(&rt, "cases", Error::from_raw_os_error(NAME_TOO_LONG))
+    let code = match rt.arg(1, &mut name) {
+        Ok(length) => {
+            if let Ok(path) = str::from_utf8(&name[..length]) {
+                run(&rt, path);
+                return;
+            }
+            NO_TEXT
         }
-        Err(FillError::NotPresent) => {
-            streams::fail(&rt, "cases", Error::from_raw_os_error(INVALID_ARGUMENT))
-        }
-    }
+        Err(FillError::TooLong) => NAME_TOO_LONG,
+        Err(FillError::NotPresent) => INVALID_ARGUMENT,
+    };
+    streams::fail(&rt, "cases", Error::from_raw_os_error(code));
 }

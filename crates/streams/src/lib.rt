@@ -1,9 +1,11 @@
 // Reading and writing, so that no failure goes by unnoticed: it is told in one line on standard error, which names what failed and
 // why. A call that a signal interrupts is made again, and a write that takes only a part goes on with the rest.
-// Assumes of `read` and `write` what std says of them, which is how many bytes they move. Which bytes those are no contract says.
+// Takes any reader and any writer, and assumes of them what std says of each. Where a type says which bytes it gives or holds, the
+// contracts say which of them were read or written; of a descriptor's nobody can say that.
 #![tactic(auto)]
 
-ghost use Rattle.std.specs.Prelude.{◌≡◌, ◌≤◌, length, take};
+ghost use Rattle.std.specs.Prelude.{◌≡◌, ℕ, ◌<◌, ◌≤◌, true, false, length, take};
+ghost use Rattle.std.specs.Io.KnownBytes.{Appends, Consumes, IsAtEnd};
 
 use std::fmt::InlineText;
 use std::io::{Error, ErrorKind, Read, Write};
@@ -37,6 +39,8 @@ fn interrupted(error: &Error) -> bool {
 pub fn read_some<I: Read>(rt: &impl Eprint, input: &mut I, what: &str, chunk: &mut [u8]) -> Got
     ensures within { result.count ≤ length chunk.new }
     ensures part { result.count ≡ length (take result.count chunk.new) }
+    ensures bytes { Consumes (I.remaining input.old) (I.remaining input.new) (take result.count chunk.new) }
+    ensures end { result.failed ≡ false → result.count ≡ 0 → 0 < length chunk.old → IsAtEnd (I.remaining input.new) }
 {
     let mut why = Error::from(ErrorKind::Interrupted);
     for _ in 0..u64::MAX {
@@ -65,6 +69,7 @@ pub fn read_some<I: Read>(rt: &impl Eprint, input: &mut I, what: &str, chunk: &m
 fn write_some<O: Write>(rt: &impl Eprint, output: &mut O, what: &str, bytes: &[u8]) -> usize
     ensures within { result ≤ length bytes.now }
     ensures part { result ≡ length (take result bytes.now) }
+    ensures bytes { Appends (O.contents output.old) (O.contents output.new) (take result bytes.now) }
 {
     let mut why = Error::from(ErrorKind::Interrupted);
     for _ in 0..u64::MAX {
@@ -86,7 +91,10 @@ fn write_some<O: Write>(rt: &impl Eprint, output: &mut O, what: &str, bytes: &[u
 }
 
 // Writes all of the bytes. False where a write failed.
-pub fn write_whole<O: Write>(rt: &impl Eprint, output: &mut O, what: &str, bytes: &[u8]) -> bool {
+pub fn write_whole<O: Write>(rt: &impl Eprint, output: &mut O, what: &str, bytes: &[u8]) -> bool
+    ensures whole { result ≡ true → Appends (O.contents output.old) (O.contents output.new) bytes.now }
+    ensures part { (n : ℕ) × Appends (O.contents output.old) (O.contents output.new) (take n bytes.now) }
+{
     let mut done: usize = 0;
     while done < bytes.len() {
         let put = write_some(rt, output, what, &bytes[done..]);

@@ -1,0 +1,2 @@
+-- The lemmas of the loops.
+pub mod Known

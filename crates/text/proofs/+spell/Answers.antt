@@ -1,6 +1,6 @@
 -- `spell`: one digit, or the digits of a tenth and then the last.
 use Rattle.std.proofs.Common.{arith}
-use Rattle.text.specs.Decimals.{decimal_one, decimal-more, decimal_longer, decimal_short}
+use Rattle.text.proofs.Decimals.{decimal_one, decimal-more, decimal_longer, decimal_short}
 use Rattle.text.specs.Writing.{wrote_byte, wrote_then}
 use Rattle.text.proofs.+spell.Goals as goal
 

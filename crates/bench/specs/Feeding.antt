@@ -5,7 +5,8 @@ use Rattle.std.proofs.Common.{sym, ◌∙◌, arith, add-one, eq-eqb, ne_eqb, le
 use Rattle.rules.specs.Words.{Image}
 use Rattle.line.specs.Lines.{line_of, fuse_after}
 use Rattle.text.specs.Texts.{newline}
-use Rattle.line.specs.Gathering.{kept, Gathered, Holds, holds_start, holds_next, holds_line}
+use Rattle.line.specs.Gathering.{kept, Gathered, Holds, holds_start, holds_next}
+use Rattle.line.proofs.Keeping.{holds_line}
 use Rattle.obey.specs.Obeying.{image_after}
 use Rattle.bench.specs.declared.feed.Held.{Held}
 use Rattle.bench.specs.Steps.{Dialogue, line_ended, byte_after, bytes_after}

@@ -1,11 +1,9 @@
--- A line that is gathered byte by byte into a buffer of bounded length, and why the bytes kept tell as much as the whole line: a line
--- that does not fit is too long. Assumes nothing.
+-- A line that is gathered byte by byte into a buffer of bounded length. Why the bytes kept tell as much as the whole line is in
+-- proofs/Keeping.antt. Assumes nothing.
 use Rattle.std.specs.Prelude.{ℕ, zero, suc, ◌+◌, ◌<◌, ◌≤◌, min, ◌≡◌, refl, List, [], ◌∷◌, ◌++◌, length, take, drop, set}
 use Rattle.std.proofs.Common.{sym, ap, ◌∙◌, arith, add-one, length-append, length-set, take_all, take-suc-set, drop-set-lt, length-take-le}
-use Rattle.std.proofs.Math.Decide.{dec_le}
 use Rattle.std.proofs.Math.Seq.{take-nil, take-append_seam}
-use Rattle.line.specs.Lines.{longest_line, line_of}
-use Rattle.line.specs.Meanings.{line_long}
+use Rattle.line.specs.Lines.{longest_line}
 
 -- one byte more than the longest line has
 abbrev pub kept : ℕ
@@ -70,14 +68,3 @@ holds_next k buf count s b after r h g =
       counted = omega (arith, h.counted, g.counted, length-append s (b ∷ []));
       held = g.held ∙ rw h.held (take_more k s (b ∷ []));
     }
-
--- what is kept of a line means what the whole line does
-pub kept_line : (s : List ℕ) → line_of (take kept s) ≡ line_of s
-kept_line s =
-    elim (dec_le (length s) kept) [
-      | yes l ↦ rw (take_all kept s l)
-      | no l ↦ sym (line_long (take kept s) (omega (arith, length-take-le kept s (omega arith)))) ∙ line_long s (omega arith)
-    ]
-
-pub holds_line : (buf : List ℕ) (count : ℕ) (s : List ℕ) → Holds kept buf count s → line_of (take count buf) ≡ line_of s
-holds_line buf count s h = ap line_of h.held ∙ kept_line s

@@ -6,7 +6,5 @@ pub mod Forms
 pub mod Scans
 pub mod Names
 pub mod Numbers
-pub mod Fields
-pub mod Meanings
 pub mod Gathering
 pub mod Determined

@@ -1,6 +1,6 @@
 -- `read`: a law for each way out.
 use Rattle.std.proofs.Common.{◌∙◌, arith}
-use Rattle.line.specs.Meanings.{line_long, line_name, line_numbers}
+use Rattle.line.proofs.Meanings.{line_long, line_name, line_numbers}
 use Rattle.line.proofs.read.Goals as goal
 
 pub returns-then-line-gt-LONGEST_LINE : goal.returns-then-line-gt-LONGEST_LINE

@@ -1,7 +1,7 @@
 -- `space`: a space decides, and any other byte is passed.
 use Rattle.std.proofs.Common.{sym, ◌∙◌, add-zero, arith, eq-eqb, ne_eqb}
 use Rattle.line.specs.Forms.{space_at}
-use Rattle.line.specs.Fields.{space_hit, space_pass}
+use Rattle.line.proofs.Fields.{space_hit, space_pass}
 use Rattle.line.specs.Scans.{scan_end, scan_hit, scan_move}
 use Rattle.line.proofs.space.Goals as goal
 

@@ -1,7 +1,7 @@
 -- `with_numbers`: a law for each way out.
 use Rattle.std.proofs.Common.{◌∙◌}
 use Rattle.line.specs.Numbers.{number_not, number_is}
-use Rattle.line.specs.Meanings.{first_not, one_number, more_numbers}
+use Rattle.line.proofs.Meanings.{first_not, one_number, more_numbers}
 use Rattle.line.proofs.with_numbers.Goals as goal
 
 pub returns-in_default : goal.returns-in_default

@@ -1,7 +1,7 @@
 -- `with_offset`: a law for each way out.
 use Rattle.std.proofs.Common.{◌∙◌}
 use Rattle.line.specs.Numbers.{number_not, number_is}
-use Rattle.line.specs.Meanings.{second_not, two_numbers, value_not, three_numbers}
+use Rattle.line.proofs.Meanings.{second_not, two_numbers, value_not, three_numbers}
 use Rattle.line.proofs.with_offset.Goals as goal
 
 pub returns-in_default : goal.returns-in_default

@@ -10,11 +10,11 @@ use Rattle.std.proofs.lemmas.Bool.{eqb-false}
 use Rattle.line.specs.declared.Line.TheVariants.{Bad}
 use Rattle.line.specs.Lines.{fields, number, followed, numbers, named, commands, command, meaning, longest_line, line_of}
 use Rattle.line.specs.Forms.{space_at}
-use Rattle.line.specs.Fields.{Whole, behind, fields_one, fields-more, number-space, behind_is}
+use Rattle.line.proofs.Fields.{Whole, behind, fields_one, fields-more, number-space, behind_is}
 
 -- a text has a space or not
-whole-or-not {ℓ} : {A : Type ℓ} (s : List ℕ) → (Whole s → A) → ((Whole s → ⊥) → A) → A
-whole-or-not {A = A} s f g = go (eqb (space_at s) (length s)) refl
+whole_or_not {ℓ} : {A : Type ℓ} (s : List ℕ) → (Whole s → A) → ((Whole s → ⊥) → A) → A
+whole_or_not {A = A} s f g = go (eqb (space_at s) (length s)) refl
   where
     go : (t : Bool) → eqb (space_at s) (length s) ≡ t → A
     go true e = f (eqb-true _ _ e)
@@ -35,15 +35,15 @@ too_many name o t f g gs = go (number f) (number g) (numbers gs)
 module _ (name : List ℕ) (o t : ℕ) (s : List ℕ) where
   third_not : number s ≡ none → command name (followed (some o) (followed (some t) (numbers (fields s)))) ≡ Bad
   unfolding numbers command
-  third_not e = whole-or-not s (λ w. rw (fields_one s w, e)) (λ w. rw (fields-more s w) (another (drop (space_at s + 1) s)))
+  third_not e = whole_or_not s (λ w. rw (fields_one s w, e)) (λ w. rw (fields-more s w) (another (drop (space_at s + 1) s)))
     where
       another : (r : List ℕ) → command name (followed (some o) (followed (some t) (numbers (take (space_at s) s ∷ fields r)))) ≡ Bad
-      another r = whole-or-not r (λ w. rw (fields_one r w) (too_many name o t (take (space_at s) s) r [])) (λ w. rw (fields-more r w) (too_many name o t (take (space_at s) s) (take (space_at r) r) (fields (drop (space_at r + 1) r))))
+      another r = whole_or_not r (λ w. rw (fields_one r w) (too_many name o t (take (space_at s) s) r [])) (λ w. rw (fields-more r w) (too_many name o t (take (space_at s) s) (take (space_at r) r) (fields (drop (space_at r + 1) r))))
 
   third_is : (v : ℕ) → number s ≡ some v → command name (followed (some o) (followed (some t) (numbers (fields s)))) ≡ named name (commands (o ∷ t ∷ v ∷ []))
   unfolding numbers command
   third_is v e =
-      whole-or-not s (λ w. rw (fields_one s w, e))
+      whole_or_not s (λ w. rw (fields_one s w, e))
       (λ w. absurd (let n = number-space s w in let z : ◌≡◌ {A = ℕ} 0 1 = cc in omega arith))
 
 -- a text whose first space stands at e, or that has none and e bytes
@@ -58,7 +58,7 @@ module _ (name s : List ℕ) (e : ℕ) (at : e ≡ space_at s) where
   -- after the name
   pub first_not : number (take e s) ≡ none → Bad ≡ command name (numbers (fields s))
   unfolding numbers command
-  first_not q = whole-or-not s (λ w. rw (last-field s e at (at ∙ w), q)) (λ w. rw (next_field s e at (λ l. w (sym at ∙ l)), q))
+  first_not q = whole_or_not s (λ w. rw (last-field s e at (at ∙ w), q)) (λ w. rw (next_field s e at (λ l. w (sym at ∙ l)), q))
 
   module _ (n : ℕ) (q : number (take e s) ≡ some n) where
     pub one_number : e ≡ length s → named name (commands (n ∷ [])) ≡ command name (numbers (fields s))
@@ -73,7 +73,7 @@ module _ (name s : List ℕ) (e : ℕ) (at : e ≡ space_at s) where
   module _ (o : ℕ) where
     pub second_not : number (take e s) ≡ none → Bad ≡ command name (followed (some o) (numbers (fields s)))
     unfolding numbers command
-    second_not q = whole-or-not s (λ w. rw (last-field s e at (at ∙ w), q)) (λ w. rw (next_field s e at (λ l. w (sym at ∙ l)), q))
+    second_not q = whole_or_not s (λ w. rw (last-field s e at (at ∙ w), q)) (λ w. rw (next_field s e at (λ l. w (sym at ∙ l)), q))
 
     module _ (t : ℕ) (q : number (take e s) ≡ some t) where
       pub two_numbers : e ≡ length s → named name (commands (o ∷ t ∷ [])) ≡ command name (followed (some o) (numbers (fields s)))

@@ -2,6 +2,7 @@
 // the hearing (tests/heard) alone: with the fuse known, the optimizer has the most to drop, join and move, if anything lets it.
 // `check` takes no fuse, and is not here.
 #![tactic(auto)]
+
 ghost use Rattle.rules.specs.declared.Request.TheVariants.{Create, Reserve, ReserveUncleared, Grow, Onactive, Onfree, Withdraw, Activate, Free, Recover};
 ghost use Rattle.rules.specs.Requests.{Does};
 ghost use Rattle.rules.specs.Cases.{longest};

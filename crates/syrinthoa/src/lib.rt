@@ -2,6 +2,7 @@
 // Assumes of a caller what C always owes: that `length` bytes at `img` are the caller's to lend, also none of them. Any bytes, numbers and
 // fuse will do; the contracts are those of `pool`.
 #![tactic(auto)]
+
 ghost use Rattle.rules.specs.declared.Request.TheVariants.{Create, Reserve, ReserveUncleared, Grow, Onactive, Onfree, Withdraw, Activate, Free, Recover};
 ghost use Rattle.rules.specs.Requests.{Does};
 ghost use Rattle.survey.specs.Checking.{Checks};

@@ -12,13 +12,8 @@
  * the words that a power loss leaves are those of some beginning of the list, if the machine stores an aligned word whole or not at all and
  * in the order asked. What lies behind the processor's store, as its caches, is the caller's to flush; each answer says which bytes.
  *
- * The functions keep nothing between calls, take no memory, and start no thread. The one thing that they call is sysconf(-1), after each
- * word, so that the compiler keeps the words apart (docs/HEARD.md); like any call of the C library it may set errno.
- * Where there is no C library, define
- *
- *     long sysconf(int name) { return -1; }
- *
- * in a file of its own. */
+ * The functions keep nothing between calls, take no memory, start no thread, and call nothing. Behind each word stands one instruction of
+ * the processor, pause, so that the compiler keeps the words apart (docs/HEARD.md). */
 #ifndef SYRINTHOA_H
 #define SYRINTHOA_H
 

@@ -3,4 +3,4 @@ use Rattle.word.specs.Runs.{ran_then}
 use Rattle.steps.proofs.carry_out.Goals as goal
 
 pub returns : goal.returns
-returns c = ran_then c.store-p1.ensures c.finish_freeing.ensures
+returns c = ran_then c.store.ensures c.finish_freeing.ensures

@@ -3,4 +3,4 @@ use Rattle.word.specs.Runs.{ran_then}
 use Rattle.steps.proofs.finish_freeing.Goals as goal
 
 pub returns : goal.returns
-returns c = ran_then c.assign-p1.ensures c.store.ensures
+returns c = ran_then c.assign.ensures c.store.ensures

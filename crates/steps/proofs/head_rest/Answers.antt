@@ -3,4 +3,4 @@ use Rattle.word.specs.Runs.{ran_then}
 use Rattle.steps.proofs.head_rest.Goals as goal
 
 pub returns : goal.returns
-returns c = ran_then c.store-p1.ensures c.store.ensures
+returns c = ran_then c.store.ensures c.store-2.ensures

@@ -9,13 +9,11 @@ ghost use Rattle.rules.specs.Stores.{need_of, is_split};
 use page::clump::Clump;
 
 // Whether need, which may lie past 64 bits, is at most nbytes: it is never computed.
+#[tactic(auto, using(laws::specs::Needs::need_small, laws::specs::Needs::need_room))]
 pub fn room(nbytes: u64, size: u64) -> bool
     ensures { result ≡ leb (need_of size) nbytes }
 {
-    if nbytes < Clump::HEADER {
-        return false;
-    }
-    size <= (nbytes - Clump::HEADER) / 64 * 64
+    Clump::HEADER <= nbytes && size <= (nbytes - Clump::HEADER) / 64 * 64
 }
 
 // Whether so many bytes are split for a need: the rest is a clump of its own.
@@ -27,9 +25,10 @@ pub fn is_split(size: u64, need: u64) -> bool
 }
 
 // need, where it fits.
+#[tactic(auto, unfolding(rules::specs::Stores::need_of))]
 pub fn need_of(size: u64) -> u64
     requires { need_of size < word_values }
     ensures { result ≡ need_of size }
 {
-    64 + (size / 64 + (size % 64 + 63) / 64) * 64
+    Clump::HEADER + size.next_multiple_of(64)
 }

@@ -5,9 +5,9 @@ use Rattle.rules.specs.Words.{Mem, word_bytes}
 use Rattle.rules.specs.Clumps.{Head, ACTIVATING, slots, value_at, Choice, bit_values, unmarked, target_of}
 use Rattle.page.specs.declared.clump.Clump.{Clump}
 
--- the clump at a, as it was read
-abbrev pub head_of : ℕ → Clump → Head
-head_of a c = record { at = a; nbytes = c.nbytes; state = c.state }
+-- a clump, as it was read
+abbrev pub head_of : Clump → Head
+head_of c = record { at = c.at; nbytes = c.nbytes; state = c.state }
 
 -- the entry that stands at s, as it is read: its target word, with the mark, and its value
 abbrev pub entry_at : Mem → ℕ → List ℕ

@@ -1,4 +1,4 @@
-// A clump's header as the code sees it: nbytes, state and the on-list. Asks that the header lies in the image.
+// A clump's header as the code sees it: where it stands, nbytes, state and the on-list. Asks that the header lies in the image.
 ghost use Rattle.std.specs.Prelude.{◌≡◌, ◌+◌, ◌%◌, ◌≤◌, length};
 ghost use Rattle.rules.specs.Words.{mem, word_bytes};
 ghost use Rattle.rules.specs.Clumps.{header_bytes, state_at};
@@ -6,6 +6,7 @@ ghost use Rattle.page.specs.Forms.{list_at};
 
 #[derive(Clone, Copy)]
 pub struct Clump {
+    pub at: usize,
     pub nbytes: u64,
     pub state: u64,
 }
@@ -26,13 +27,16 @@ impl Clump {
 
     pub const LEAST: u64 = 128;
 
-    // nbytes and state of the header at an offset.
+    // The header at an offset.
     pub fn read(img: &[u8], at: usize) -> Clump
-        requires header_bytes_in_bounds { at + header_bytes ≤ length img.now }
-        requires word_bytes_value { at % word_bytes ≡ 0 }
-        ensures { (result.nbytes ≡ mem img.now at) × (result.state ≡ mem img.now (state_at at)) }
+        requires in_image { at + header_bytes ≤ length img.now }
+        requires aligned { at % word_bytes ≡ 0 }
+        ensures at { result.at ≡ at }
+        ensures nbytes { result.nbytes ≡ mem img.now at }
+        ensures state { result.state ≡ mem img.now (state_at at) }
     {
         Clump {
+            at,
             nbytes: word::get(img, at),
             state: word::get(img, at + 8),
         }
@@ -40,8 +44,8 @@ impl Clump {
 
     // The three entries of the on-list, each a target word as it is stored, and a value.
     pub fn list(img: &[u8], at: usize) -> [[u64; 2]; 3]
-        requires header_bytes_in_bounds { at + header_bytes ≤ length img.now }
-        requires word_bytes_value { at % word_bytes ≡ 0 }
+        requires in_image { at + header_bytes ≤ length img.now }
+        requires aligned { at % word_bytes ≡ 0 }
         ensures { result ≡ list_at (mem img.now) at }
     {
         let t0 = word::get(img, at + 16);

@@ -32,16 +32,11 @@ pub const SIGNATURE_LOW: u64 = 5497841045243514922;
 
 pub const SIGNATURE_HIGH: u64 = 21479300299440975;
 
+#[tactic(auto, unfolding(rules::specs::Pages::right_length))]
 pub fn right_length(n: usize) -> bool
     ensures { result ≡ right_length n }
 {
-    if n < LEAST_LENGTH {
-        return false;
-    }
-    if MOST_LENGTH < n {
-        return false;
-    }
-    n % 64 == 0
+    (LEAST_LENGTH..=MOST_LENGTH).contains(&n) && n % 64 == 0
 }
 
 // Whether the padding of the header page is zero, a word at a time.
@@ -49,30 +44,21 @@ fn blank_padding(img: &[u8]) -> bool
     requires { clumps_at ≤ length img.now }
     ensures { result ≡ all_zero (mem img.now) padding_at padding_words }
 {
-    let mut i: usize = PADDING_AT;
-    while i < CLUMPS_AT {
-        if word::get(img, i) != 0 {
+    for i in PADDING_AT / 8..CLUMPS_AT / 8 {
+        if word::get(img, 8 * i) != 0 {
             return false;
         }
-        i += 8;
     }
     true
 }
 
+#[tactic(auto, using(crate::specs::Pool::right_least, crate::specs::Pool::pool_tests))]
 pub fn is_pool(img: &[u8]) -> bool
     ensures { result ≡ is_pool (length img.now) (mem img.now) }
 {
-    if !right_length(img.len()) {
-        return false;
-    }
-    if word::get(img, HEADER_AT) != SIGNATURE_LOW {
-        return false;
-    }
-    if word::get(img, SIGNATURE_HIGH_AT) != SIGNATURE_HIGH {
-        return false;
-    }
-    if word::get(img, TOTAL_AT) != img.len() as u64 {
-        return false;
-    }
-    blank_padding(img)
+    right_length(img.len())
+        && word::get(img, HEADER_AT) == SIGNATURE_LOW
+        && word::get(img, SIGNATURE_HIGH_AT) == SIGNATURE_HIGH
+        && word::get(img, TOTAL_AT) == img.len() as u64
+        && blank_padding(img)
 }

@@ -1,5 +1,5 @@
-// What a request answers: without a store, and what the power tells at its end. Each function takes any numbers and any power; none sees an
-// image.
+// What a request answers: a refusal, which is without a store, and what the power tells at its end. Each function takes any numbers and any
+// power; none sees an image.
 #![tactic(auto)]
 
 ghost use Rattle.std.specs.Prelude.{◌≡◌};
@@ -9,6 +9,45 @@ ghost use Rattle.laws.specs.Pools.{answer_is};
 
 use rules::Answer;
 use word::Power;
+
+// Why a request was refused. Of a pool that is not sound it has the place and the number of the fault.
+#[derive(Clone, Copy, Debug, PartialEq, Eq)]
+pub enum Refusal {
+    NotAPool,
+    NotSound { place: u64, fault: u64 },
+    Unsettled,
+    SizeZero,
+    NoRoom,
+    NoClump,
+    WrongState,
+    ListFull,
+    ListEmpty,
+    BadTarget,
+}
+
+// The answer by which C and the program are told.
+impl From<Refusal> for Answer {
+    ghost use Rattle.answer.specs.Refusals.{refusal_is};
+    ghost use Rattle.std.specs.Prelude.{◌≡◌};
+
+    ghost from_gives = { λ refusal answer. answer ≡ refusal_is refusal };
+
+    fn from(refusal: Refusal) -> Answer {
+        let number = match refusal {
+            Refusal::NotAPool => Answer::NOT_A_POOL,
+            Refusal::NotSound { place, fault } => return unstored(Answer::NOT_SOUND, place, fault),
+            Refusal::Unsettled => Answer::UNSETTLED,
+            Refusal::SizeZero => Answer::SIZE_ZERO,
+            Refusal::NoRoom => Answer::NO_ROOM,
+            Refusal::NoClump => Answer::NO_CLUMP,
+            Refusal::WrongState => Answer::WRONG_STATE,
+            Refusal::ListFull => Answer::LIST_FULL,
+            Refusal::ListEmpty => Answer::LIST_EMPTY,
+            Refusal::BadTarget => Answer::BAD_TARGET,
+        };
+        unstored(number, 0, 0)
+    }
+}
 
 // An answer without a store.
 pub fn unstored(answer: u64, place: u64, fault: u64) -> Answer
@@ -22,13 +61,6 @@ pub fn unstored(answer: u64, place: u64, fault: u64) -> Answer
         flush_from: 0,
         flush_to: 0,
     }
-}
-
-// A refusal with place 0 and fault 0.
-pub fn refusal(answer: u64) -> Answer
-    ensures { result ≡ answer_is answer 0 0 }
-{
-    unstored(answer, 0, 0)
 }
 
 // The answer of that number and place, with what the power tells of the stores.

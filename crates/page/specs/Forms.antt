@@ -42,6 +42,10 @@ due_in state l = cond (eqb state ACTIVATING) (only_in unmarked l) l
 abbrev pub reach_of : List (List ℕ) → ℕ
 reach_of l = cond (eqb (word_of (get_or l 2 [])) 0) (cond (eqb (word_of (get_or l 1 [])) 0) (cond (eqb (word_of (get_or l 0 [])) 0) 0 1) 2) 3
 
+-- the target of an entry passes the test, or the entry is empty
+abbrev pub entry_passes : (ℕ → Bool) → List ℕ → Bool
+entry_passes q e = eqb (word_of e) 0 || q (target_of (word_of e))
+
 -- every used target of a list that was read passes the test
 unfoldable pub list_passes : (ℕ → Bool) → List (List ℕ) → Bool
 list_passes q [] = true

@@ -8,11 +8,12 @@ use Rattle.std.proofs.Math.Bool.{true, false}
 use mathlib.Core.List.{List, [], ◌∷◌, map}
 use Rattle.std.proofs.Math.Seq.{drop-cons}
 use Rattle.std.proofs.lemmas.Bool.{eqb-false, not-true}
+use Rattle.std.specs.List.{list_all}
 use Rattle.rules.specs.Lists.{those, all}
 use Rattle.rules.specs.Words.{Mem}
 use Rattle.rules.specs.Clumps.{Head, has_state, ACTIVATING, Choice, used, marked, unmarked, bit_values, mark, due, target_of, target_at}
 use Rattle.laws.specs.Choices.{Chooses, chosen_used}
-use Rattle.page.specs.Forms.{entry_at, word_of, value_of, list_at, only_in, has_bit, due_in, reach_of, list_passes}
+use Rattle.page.specs.Forms.{entry_at, word_of, value_of, list_at, only_in, has_bit, due_in, reach_of, entry_passes, list_passes}
 
 -- the six words that are read, each at its own offset in the header
 pub list_is :
@@ -107,6 +108,12 @@ module _ (q : ℕ → Bool) where
           ≡ all (λ r. q (target_at m r)) (cond b (s ∷ those (λ r. c (m r)) sl) (those (λ r. c (m r)) sl))
       go true e = ap (λ (x : Bool). q (target_at m s) && x) e
       go false e = e
+
+  -- the entries one after the other
+  pub passes_all : (l : List (List ℕ)) → list_all (entry_passes q) l ≡ list_passes q l
+  unfolding list_passes
+  passes_all [] = refl
+  passes_all (e ∷ l) = ap (λ (x : Bool). entry_passes q e && x) (passes_all l)
 
   -- a loop over the list: what is left of it still has the answer of the whole
   module _ (l : List (List ℕ)) (i : ℕ) (u : i < length l) (w : list_passes q (drop i l) ≡ list_passes q l) where

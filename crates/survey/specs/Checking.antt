@@ -1,5 +1,5 @@
 -- The contracts of check and of the tests 1 and 2, and the laws of the survey and of check. Assumes nothing.
-use Rattle.std.specs.Prelude.{ℕ, Bool, cond, not, ◌||◌, [], eqb, length}
+use Rattle.std.specs.Prelude.{ℕ, Bool, cond, not, ◌||◌, [], eqb, length, Ok, Err}
 use Rattle.std.proofs.Math.Path.{◌≡◌, refl, sym}
 use Rattle.std.proofs.Common.{ap, ◌∙◌, arith, eq-eqb, ne_eqb}
 use Rattle.std.proofs.Math.Bool.{true, false}
@@ -15,6 +15,9 @@ use Rattle.rules.specs.Answers.{granted, test, test_fault, not_pool, not_settled
 use Rattle.rules.specs.Requests.{verdict, answer_on, totals_on}
 use Rattle.rules.specs.Reading.{clumps_of}
 use Rattle.laws.specs.Pools.{answer_is, granted_none, Sound, check_sound}
+use Rattle.answer.specs.declared.Refusal.{Refusal}
+use Rattle.answer.specs.declared.Refusal.TheVariants.{NotAPool, NotSound}
+use Rattle.answer.specs.Refusals.{refusal_is, answer_in, ok_done, refusal_not_done}
 use Rattle.judge.specs.Forms.{judged_of}
 use Rattle.judge.specs.declared.Judged.TheVariants.{Fault as Broken}
 use Rattle.seen.specs.declared.Seen.{Seen}
@@ -30,19 +33,19 @@ pub record Checks (img : Image) (r : Checked) : Type 0 where
 
 -- the answer to the tests 1 and 2, whatever the fuse, and what is seen of the whole walk; nothing, where there is no pool
 pub record Surveys (img : Image) (r : Surveyed) : Type 0 where
-  pub answered : (fuse : ℕ) → r.answer ≡ answer_of fuse (if_sound (length img) (mem img) (granted 0 []))
+  pub answered : (fuse : ℕ) → answer_in r.tests ≡ answer_of fuse (if_sound (length img) (mem img) (granted 0 []))
   pub seen_is : r.seen ≡ cond (is_pool (length img) (mem img)) (seen (length img) (mem img) (clumps_of img)) nothing
 
 -- the tests 1 and 2, a law for each way out
-module _ (img : Image) (a : Answer) (s : Seen) where
-  pub surveys_no_pool : is_pool (length img) (mem img) ≡ false → a ≡ answer_is 1 0 0 → s ≡ nothing → Surveys img (record { answer = a; seen = s })
+module _ (img : Image) (s : Seen) where
+  pub surveys_no_pool : is_pool (length img) (mem img) ≡ false → s ≡ nothing → Surveys img (record { tests = Err NotAPool; seen = s })
   unfolding answer_of if_sound
-  surveys_no_pool p e f = record { answered = λ fuse. rw (e, p); seen_is = rw p f }
+  surveys_no_pool p f = record { answered = λ fuse. rw p; seen_is = rw p f }
 
   module _ (pool : is_pool (length img) (mem img) ≡ true) (sees : s ≡ seen (length img) (mem img) (clumps_of img)) where
-    pub surveys_fault : (p k : ℕ) → Broken p k ≡ judged_of (judge (length img) (mem img)) → a ≡ answer_is 2 p k → Surveys img (record { answer = a; seen = s })
+    pub surveys_fault : (p k : ℕ) → Broken p k ≡ judged_of (judge (length img) (mem img)) → Surveys img (record { tests = Err (NotSound p k); seen = s })
     unfolding answer_of if_sound
-    surveys_fault p k e f = record { answered = λ fuse. rw (f, pool) (go (judge (length img) (mem img)) e fuse); seen_is = rw pool sees }
+    surveys_fault p k e = record { answered = λ fuse. rw pool (go (judge (length img) (mem img)) e fuse); seen_is = rw pool sees }
       where
         go : (o : Option Fault) → Broken p k ≡ judged_of o → (fuse : ℕ) → answer_is 2 p k ≡ answer_of fuse (test_fault o (granted 0 []))
         go none f fuse = absurd (let z : ◌≡◌ {A = ℕ} 0 1 = cc in omega arith)
@@ -51,9 +54,9 @@ module _ (img : Image) (a : Answer) (s : Seen) where
             let b : k ≡ x.number = (cc) in
             rw (a, b)
 
-    pub surveys_done : judge (length img) (mem img) ≡ none → a ≡ answer_is 0 0 0 → Surveys img (record { answer = a; seen = s })
+    pub surveys_done : {x : Unit {0}} → judge (length img) (mem img) ≡ none → Surveys img (record { tests = Ok x; seen = s })
     unfolding if_sound
-    surveys_done e f = record { answered = λ fuse. rw (f, pool, e) (granted_none 0 fuse); seen_is = rw pool sees }
+    surveys_done e = record { answered = λ fuse. rw (pool, e) (granted_none 0 fuse); seen_is = rw pool sees }
 
 -- whether the state is unsettled: an unfinished clump, or none
 module _ (s : Seen) where
@@ -88,10 +91,10 @@ module _ (n : ℕ) (m : Mem) (r : Answer) (e : (fuse : ℕ) → r ≡ answer_of 
   unfolding if_settled
   survey_settled z u fuse = rw u (e fuse)
 
--- the state, where the answer is 0
-module _ {img : Image} {r : Surveyed} (v : Surveys img r) (z : r.answer.answer ≡ 0) where
+-- the state, where the tests passed
+module _ {img : Image} {r : Surveyed} (v : Surveys img r) {x : Unit {0}} (z : r.tests ≡ Ok x) where
   pub surveyed_sound : Sound (length img) (mem img)
-  surveyed_sound = survey_sound (length img) (mem img) r.answer v.answered z
+  surveyed_sound = survey_sound (length img) (mem img) (answer_in r.tests) v.answered (ok_done z)
 
   pub surveyed_seen : r.seen ≡ seen (length img) (mem img) (clumps_of img)
   surveyed_seen = v.seen_is ∙ rw surveyed_sound.pool
@@ -109,21 +112,28 @@ module _ {img : Image} {r : Surveyed} (v : Surveys img r) (z : r.answer.answer �
 -- check, refused and accepted
 module _ {img : Image} {r : Surveyed} (v : Surveys img r) where
   pub checks_refused :
-      (r.answer.answer ≡ 0 → ⊥)
-      → Checks img (record { answer = r.answer; totals = record { free = 0; reserved = 0; activating = 0; active = 0; freeing = 0 } })
+      {q : Refusal} → r.tests ≡ Err q
+      → Checks img (record { answer = refusal_is q; totals = record { free = 0; reserved = 0; activating = 0; active = 0; freeing = 0 } })
   unfolding verdict if_sound
-  checks_refused z = record { answered = v.answered; totalled = go (is_pool (length img) (mem img)) (judge (length img) (mem img)) (v.answered 0) }
+  checks_refused {q = q} z =
+      record {
+        answered = λ fuse. rw z at (v.answered fuse);
+        totalled = go (is_pool (length img) (mem img)) (judge (length img) (mem img)) (rw z at (v.answered 0));
+      }
     where
       go :
           (t : Bool) (o : Option Fault)
-          → r.answer ≡ answer_of 0 (test (not t) not_pool (test_fault o (granted 0 [])))
+          → refusal_is q ≡ answer_of 0 (test (not t) not_pool (test_fault o (granted 0 [])))
           → record { free = 0; reserved = 0; activating = 0; active = 0; freeing = 0 } ≡ totals_for (test (not t) not_pool (test_fault o (granted 0 []))) (clumps_of img)
-      go true none f = absurd (z (ap (λ (a : Answer). a.answer) (f ∙ sym (granted_none 0 0))))
+      go true none f = absurd (refusal_not_done q (ap (λ (a : Answer). a.answer) (f ∙ sym (granted_none 0 0))))
       go true (some x) f = refl
       go false o f = refl
 
-  pub checks_done : r.answer.answer ≡ 0 → Checks img (record { answer = r.answer; totals = r.seen.totals })
+  pub checks_done : {x : Unit {0}} → r.tests ≡ Ok x → Checks img (record { answer = answer_is 0 0 0; totals = r.seen.totals })
   unfolding verdict if_sound
   checks_done z =
       let s = surveyed_sound v z in
-      record { answered = v.answered; totalled = rw (s.pool, s.sound) (told_totals (length img) (mem img) r.seen (surveyed_seen v z) (surveyed_fault v z)) }
+      record {
+        answered = λ fuse. rw z at (v.answered fuse);
+        totalled = rw (s.pool, s.sound) (told_totals (length img) (mem img) r.seen (surveyed_seen v z) (surveyed_fault v z));
+      }

@@ -5,41 +5,37 @@
 ghost use Rattle.std.specs.Prelude.{◌≡◌, not, ◌||◌, [], ℕ, length, eqb};
 ghost use Rattle.rules.specs.Words.{mem};
 ghost use Rattle.rules.specs.Answers.{granted, if_settled, answer_of};
+ghost use Rattle.answer.specs.Refusals.{answer_in};
 ghost use Rattle.survey.specs.Checking.{Surveys, Checks};
 
+use answer::Refusal;
 use judge::Judged;
 use rules::{Answer, Totals};
 use seen::Seen;
 
-// The answer to the tests 1 and 2, and what the walk over the clumps has seen.
+// What the tests 1 and 2 came to, and what the walk over the clumps has seen, also where they refuse.
 #[derive(Clone, Copy)]
 pub struct Surveyed {
-    pub answer: Answer,
+    pub tests: Result<(), Refusal>,
     pub seen: Seen,
 }
 
-// The tests 1 and 2: the refusal, or answer 0. Of what is no pool nothing is seen.
+// The tests 1 and 2. Of what is no pool nothing is seen.
 pub fn sound(img: &[u8]) -> Surveyed
     ensures { Surveys img.now result }
 {
     if !page::is_pool(img) {
         return Surveyed {
-            answer: answer::unstored(Answer::NOT_A_POOL, 0, 0),
+            tests: Err(Refusal::NotAPool),
             seen: seen::start(),
         };
     }
-    let s = judge::see(img);
-    let j = judge::judge(img, s);
-    let Judged::Fault { place, fault } = j else {
-        return Surveyed {
-            answer: answer::unstored(Answer::DONE, 0, 0),
-            seen: s,
-        };
+    let seen = judge::see(img);
+    let tests = match judge::judge(img, seen) {
+        Judged::Sound => Ok(()),
+        Judged::Fault { place, fault } => Err(Refusal::NotSound { place, fault }),
     };
-    Surveyed {
-        answer: answer::unstored(Answer::NOT_SOUND, place, fault),
-        seen: s,
-    }
+    Surveyed { tests, seen }
 }
 
 // Whether a clump is unfinished or two FREE clumps touch.
@@ -52,19 +48,16 @@ fn is_unsettled(s: Seen) -> bool
     s.touched
 }
 
-// The tests 1, 2 and 3, which every request but create, check and recover begins with: the refusal, or answer 0.
-pub fn survey(img: &[u8]) -> Answer
-    ensures { (fuse : ℕ) → result ≡ answer_of fuse (if_settled (length img.now) (mem img.now) (granted 0 [])) }
+// The tests 1, 2 and 3, which every request but create, check and recover begins with.
+pub fn survey(img: &[u8]) -> Result<(), Refusal>
+    ensures { (fuse : ℕ) → answer_in result ≡ answer_of fuse (if_settled (length img.now) (mem img.now) (granted 0 [])) }
 {
-    let v = sound(img);
-    let a = v.answer;
-    if a.answer != Answer::DONE {
-        return a;
+    let surveyed = sound(img);
+    surveyed.tests?;
+    if is_unsettled(surveyed.seen) {
+        return Err(Refusal::Unsettled);
     }
-    if is_unsettled(v.seen) {
-        return answer::unstored(Answer::UNSETTLED, 0, 0);
-    }
-    a
+    Ok(())
 }
 
 // What check answers, and its five totals.
@@ -78,11 +71,14 @@ pub struct Checked {
 pub fn check(img: &[u8]) -> Checked
     ensures { Checks img.now result }
 {
-    let v = sound(img);
-    let a = v.answer;
-    if a.answer != Answer::DONE {
-        return Checked {
-            answer: a,
+    let surveyed = sound(img);
+    match surveyed.tests {
+        Ok(()) => Checked {
+            answer: answer::unstored(Answer::DONE, 0, 0),
+            totals: surveyed.seen.totals,
+        },
+        Err(refusal) => Checked {
+            answer: Answer::from(refusal),
             totals: Totals {
                 free: 0,
                 reserved: 0,
@@ -90,12 +86,6 @@ pub fn check(img: &[u8]) -> Checked
                 active: 0,
                 freeing: 0,
             },
-        };
-    }
-    let s = v.seen;
-    let t = s.totals;
-    Checked {
-        answer: a,
-        totals: t,
+        },
     }
 }

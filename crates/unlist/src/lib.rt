@@ -8,6 +8,7 @@ ghost use Rattle.rules.specs.Clumps.{head, header_bytes};
 ghost use Rattle.rules.specs.Requests.{withdraw, Does};
 ghost use Rattle.steps.specs.Acts.{Acts};
 
+use answer::Refusal;
 use page::clump::Clump;
 use page::entry;
 use rules::Answer;
@@ -22,12 +23,12 @@ fn withdraw_at(img: &mut [u8], h: usize, offset: u64, fuse: u64) -> Answer
 {
     let c = Clump::read(img, h);
     if !seen::header::waits(c.state) {
-        return answer::refusal(Answer::WRONG_STATE);
+        return Answer::from(Refusal::WrongState);
     }
     let l = Clump::list(img, h);
     let k = entry::reach(l);
     if k == 0 {
-        return answer::refusal(Answer::LIST_EMPTY);
+        return Answer::from(Refusal::ListEmpty);
     }
     let p = Power::new(fuse);
     let p1 = word::store(img, p, h + 16 * k, 0);
@@ -37,12 +38,11 @@ fn withdraw_at(img: &mut [u8], h: usize, offset: u64, fuse: u64) -> Answer
 pub fn withdraw(img: &mut [u8], offset: u64, fuse: u64) -> Answer
     ensures { Does img.old (Withdraw offset) fuse img.new result }
 {
-    let a = survey::survey(img);
-    if a.answer != Answer::DONE {
-        return a;
+    if let Err(refusal) = survey::survey(img) {
+        return Answer::from(refusal);
     }
     let Found::At(h, _) = walk::find(img, offset) else {
-        return answer::refusal(Answer::NO_CLUMP);
+        return Answer::from(Refusal::NoClump);
     };
     withdraw_at(img, h, offset, fuse)
 }

@@ -1,6 +1,7 @@
 -- Laws of the searches over the clumps: a word in a part without a sum, what the offset or the enum of a search tells in clumps that
 -- tile, and the targets of a list that was read. Assumes nothing.
-use Rattle.std.specs.Prelude.{ℕ, zero, suc, ◌+◌, ◌-◌, ◌<◌, ◌≤◌, ◌≡◌, refl, List, [], ◌∷◌, Bool, true, false, ◌||◌, get_or, leb, eqb}
+use Rattle.std.specs.Prelude as code
+use Rattle.std.specs.Prelude.{Some, None, ℕ, zero, suc, ◌+◌, ◌-◌, ◌<◌, ◌≤◌, ◌≡◌, refl, List, [], ◌∷◌, Bool, true, false, ◌||◌, get_or, leb, eqb}
 use Rattle.std.proofs.Common.{sym, ap, subst, ◌∙◌, arith, le-leb, ne_eqb}
 use Rattle.std.proofs.Math.Option.{Option, some, none, map}
 use Rattle.std.proofs.lemmas.Bool.{lt-leb}
@@ -15,11 +16,10 @@ use Rattle.laws.specs.Searches.{and_both}
 use Rattle.laws.specs.Walking.{Inside, seek_placed}
 use Rattle.laws.specs.Lying.{valid_in}
 use Rattle.laws.specs.Choices.{Chooses, chooses_due}
-use Rattle.walk.specs.Forms.{found_of, list_valid}
+use Rattle.walk.specs.Forms.{found_at, found_of, list_valid}
 use Rattle.page.specs.Forms.{word_of, list_at, only_in, due_in, list_passes, InImage}
 use Rattle.page.specs.Slots.{due_is, passes_by}
 use Rattle.walk.specs.declared.Found.{Found}
-use Rattle.walk.specs.declared.Found.TheVariants.{At, Nothing}
 
 -- the word at t in a up to b
 pub lies_below : (a b t : ℕ) → t < a → false ≡ lies a b t
@@ -64,32 +64,38 @@ pub record Finds (n : ℕ) (m : Mem) (body h b : ℕ) : Type 0 where
   pub inside : Inside n m h
 
 -- what the finder answers, at the end of its walk and at the clump that it finds
-pub found_end : (hs : List Head) (body : ℕ) → none ≡ finder hs body → Nothing ≡ found_of (finding hs body)
+pub found_end : (hs : List Head) (body : ℕ) → none ≡ finder hs body → None ≡ found_of (finding hs body)
 found_end hs body e = ap (λ (o : Option Head). found_of (map (λ h. (h.at, below_of hs h)) o)) e
 
-pub found_hit : (hs : List Head) (body : ℕ) (h : Head) (b : ℕ) → some h ≡ finder hs body → b ≡ below_of hs h → At h.at b ≡ found_of (finding hs body)
-found_hit hs body h b e f = ap (At h.at) f ∙ ap (λ (o : Option Head). found_of (map (λ k. (k.at, below_of hs k)) o)) e
+pub found_hit :
+    (hs : List Head) (body : ℕ) (h : Head) (b : ℕ)
+    → some h ≡ finder hs body
+    → b ≡ below_of hs h
+    → Some (found_at h.at b) ≡ found_of (finding hs body)
+found_hit hs body h b e f =
+    ap (λ (k : ℕ). Some (found_at h.at k)) f ∙ ap (λ (o : Option Head). found_of (map (λ k. (k.at, below_of hs k)) o)) e
 
--- what the finder's enum tells, in clumps that tile
-module _ (n : ℕ) (m : Mem) (body : ℕ) (tiles : Tiles clumps_at (walk n m) n) (r : Found) (e : r ≡ found_of (finding (walk n m) body)) where
-  pub found_none : r ≡ Nothing → finder (walk n m) body ≡ none
+-- what it tells, in clumps that tile
+module _ (n : ℕ) (m : Mem) (body : ℕ) (tiles : Tiles clumps_at (walk n m) n) (r : code.Option Found) (e : r ≡ found_of (finding (walk n m) body)) where
+  pub found_none : r ≡ None → finder (walk n m) body ≡ none
   found_none f = go (finder (walk n m) body) refl
     where
       go : (o : Option Head) → finder (walk n m) body ≡ o → finder (walk n m) body ≡ none
       go none q = q
       go (some h) q = absurd (let z : ◌≡◌ {A = ℕ} 0 1 = cc (found_hit (walk n m) body h _ (sym q) refl) in omega arith)
 
-  pub found_some : (h b : ℕ) → r ≡ At h b → Finds n m body h b
-  found_some h b f = go (finder (walk n m) body) refl
+  pub found_some : (f : Found) → r ≡ Some f → Finds n m body f.at f.below
+  found_some f s = go (finder (walk n m) body) refl
     where
-      go : (o : Option Head) → finder (walk n m) body ≡ o → Finds n m body h b
+      go : (o : Option Head) → finder (walk n m) body ≡ o → Finds n m body f.at f.below
       go none q = absurd (let z : ◌≡◌ {A = ℕ} 0 1 = cc (found_end (walk n m) body (sym q)) in omega arith)
       go (some k) q =
           let p = found_hit (walk n m) body k _ (sym q) refl in
           let i = seek_placed n m (λ c. eqb (body_of c) body) k tiles q in
-          let a : k.at ≡ h = cc in
-          let d : below_of (walk n m) k ≡ b = cc in
-          let s : k ≡ head m h = i.head_is ∙ ap (head m) a in
+          let t : found_at k.at (below_of (walk n m) k) ≡ f = cc in
+          let a : k.at ≡ f.at = ap (λ (x : Found). x.at) t in
+          let d : below_of (walk n m) k ≡ f.below = ap (λ (x : Found). x.below) t in
+          let s : k ≡ head m f.at = i.head_is ∙ ap (head m) a in
           record { found = q ∙ ap {B = Option Head} some s; under = sym d ∙ ap (below_of (walk n m)) s; inside = subst (Inside n m) a i.inside }
 
 -- the chosen entries of the list that was read from a clump

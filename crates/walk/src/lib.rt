@@ -17,39 +17,35 @@ ghost use Rattle.walk.specs.Beside.{free_bytes};
 use page::clump::Clump;
 use page::{CLUMPS_AT, STATIC_AT, STATIC_END, entry};
 
-// The clump that has its body at an offset: the offset of its header, and that of the clump before it, or 0 for the first clump.
+// The clump that has its body at an offset: where its header stands, and where that of the clump before it does, or 0 for the first clump, as
+// W7 has it.
 #[derive(Clone, Copy)]
-pub enum Found {
-    At(usize, usize),
-    Nothing,
+pub struct Found {
+    pub at: usize,
+    pub below: usize,
 }
 
-pub fn find(img: &[u8], body: u64) -> Found
+pub fn find(img: &[u8], body: u64) -> Option<Found>
     requires { Tiled img.now }
     ensures { result ≡ found_of (finding (clumps_of img.now) body) }
 {
     let mut below: usize = 0;
     let mut h: usize = CLUMPS_AT;
-    loop {
-        if img.len() <= h {
-            return Found::Nothing;
-        }
+    while h < img.len() {
         if h as u64 + Clump::HEADER == body {
-            return Found::At(h, below);
+            return Some(Found { at: h, below });
         }
         let c = Clump::read(img, h);
         below = h;
         h += c.nbytes as usize;
     }
+    None
 }
 
 fn suits(c: Clump, size: u64) -> bool
-    ensures { result ≡ fits (need_of size) (head_of 0 c) }
+    ensures { result ≡ fits (need_of size) (head_of c) }
 {
-    if c.state == Clump::FREE {
-        return need::room(c.nbytes, size);
-    }
-    false
+    c.state == Clump::FREE && need::room(c.nbytes, size)
 }
 
 // "The scan stops at the first FREE clump with nbytes at least need": its header's offset, or the image's length as an end mark.
@@ -58,7 +54,7 @@ pub fn first_fit(img: &[u8], size: u64) -> usize
     ensures { result ≡ offset_of (length img.now) (seek (fits (need_of size)) (clumps_of img.now)) }
 {
     let mut h: usize = CLUMPS_AT;
-    let at = loop {
+    loop {
         if img.len() <= h {
             break img.len();
         }
@@ -67,33 +63,24 @@ pub fn first_fit(img: &[u8], size: u64) -> usize
             break h;
         }
         h += c.nbytes as usize;
-    };
-    at
+    }
 }
 
 // Whether the word at t lies in a up to b. No sum is made of t, which may be any number.
 pub fn word_lies(a: u64, b: u64, t: u64) -> bool
     ensures { result ≡ lies a b t }
 {
-    if t < a {
-        return false;
-    }
-    if b <= t {
-        return false;
-    }
-    8 <= b - t
+    (a..b).contains(&t) && 8 <= b - t
 }
 
-// Whether the word at t lies in the body of the clump at h, and the clump is live.
-fn holds(c: Clump, h: usize, t: u64) -> bool
-    requires nbytes_bound { h + c.nbytes < word_values }
-    requires header_bytes_bound { h + header_bytes < word_values }
-    ensures { result ≡ holds_word t (head_of h c) }
+// Whether the word at t lies in the body of the clump, and the clump is live.
+fn holds(c: Clump, t: u64) -> bool
+    requires end_fits { c.at + c.nbytes < word_values }
+    requires body_fits { c.at + header_bytes < word_values }
+    ensures { result ≡ holds_word t (head_of c) }
 {
-    if c.state == Clump::FREE {
-        return false;
-    }
-    word_lies(h as u64 + Clump::HEADER, h as u64 + c.nbytes, t)
+    let at = c.at as u64;
+    c.state != Clump::FREE && word_lies(at + Clump::HEADER, at + c.nbytes, t)
 }
 
 fn in_body(img: &[u8], t: u64) -> bool
@@ -101,30 +88,23 @@ fn in_body(img: &[u8], t: u64) -> bool
     ensures { result ≡ any (holds_word t) (clumps_of img.now) }
 {
     let mut h: usize = CLUMPS_AT;
-    loop {
-        if img.len() <= h {
-            return false;
-        }
+    while h < img.len() {
         let c = Clump::read(img, h);
-        if holds(c, h, t) {
+        if holds(c, t) {
             return true;
         }
         h += c.nbytes as usize;
     }
+    false
 }
 
 // Whether a target is valid now.
+#[tactic(auto, unfolding(rules::specs::Sound::is_valid))]
 pub fn valid(img: &[u8], t: u64) -> bool
     requires { Tiled img.now }
     ensures { result ≡ is_valid (clumps_of img.now) t }
 {
-    if t % 8 != 0 {
-        return false;
-    }
-    if word_lies(STATIC_AT, STATIC_END, t) {
-        return true;
-    }
-    in_body(img, t)
+    t % 8 == 0 && (word_lies(STATIC_AT, STATIC_END, t) || in_body(img, t))
 }
 
 // Whether the target of an entry is valid now, or the entry is empty.
@@ -132,11 +112,7 @@ fn entry_valid(img: &[u8], word: u64) -> bool
     requires { Tiled img.now }
     ensures { result ≡ (eqb word 0 || is_valid (clumps_of img.now) (target_of word)) }
 {
-    if word == 0 {
-        return true;
-    }
-    let t = entry::target_of(word);
-    valid(img, t)
+    word == 0 || valid(img, entry::target_of(word))
 }
 
 // Whether every used target of a list is valid now.
@@ -144,14 +120,7 @@ pub fn all_valid(img: &[u8], l: [[u64; 2]; 3]) -> bool
     requires { Tiled img.now }
     ensures { result ≡ list_valid (clumps_of img.now) l }
 {
-    let mut i: usize = 0;
-    while i < 3 {
-        if !entry_valid(img, l[i][0]) {
-            return false;
-        }
-        i += 1;
-    }
-    true
+    l.iter().all(|e| entry_valid(img, e[0]))
 }
 
 // nbytes of the clump at an offset if it is FREE, else 0; 0 also where no clump stands: at 0, below the first, and behind the last.
@@ -159,15 +128,9 @@ pub fn free_bytes(img: &[u8], at: usize) -> u64
     requires { (at ≡ 0 → ⊥) → at < length img.now → (at % word_bytes ≡ 0) × (at + header_bytes ≤ length img.now) }
     ensures { result ≡ free_bytes (length img.now) (mem img.now) at }
 {
-    if at == 0 {
-        return 0;
-    }
-    if img.len() <= at {
+    if at == 0 || img.len() <= at {
         return 0;
     }
     let c = Clump::read(img, at);
-    if c.state != Clump::FREE {
-        return 0;
-    }
-    c.nbytes
+    if c.state == Clump::FREE { c.nbytes } else { 0 }
 }

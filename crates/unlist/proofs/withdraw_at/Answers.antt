@@ -10,7 +10,7 @@ use Rattle.unlist.proofs.withdraw_at.Goals as goal
 pub returns-then-not-waits : goal.returns-then-not-waits
 returns-then-not-waits c =
     let m = mem c.args.img.now in
-    rw c.refusal.ensures
+    rw c.from.ensures
     (acts_same _ _
     (withdraw_state m c.args.offset (head m c.args.h) (waits_is _ _ _ c.read-c.ensures.1 c.waits.ensures ∙ c.if-not-waits.true))
     (acts_refused _ _ _ _ _))
@@ -18,7 +18,7 @@ returns-then-not-waits c =
 pub returns-then-k-eq0 : goal.returns-then-k-eq0
 returns-then-k-eq0 c =
     let m = mem c.args.img.now in
-    rw c.refusal-then-k-eq0.ensures
+    rw c.from-then-k-eq0.ensures
     (acts_same _ _
     (withdraw_empty m c.args.offset (head m c.args.h) (waits_is _ _ _ c.read-c.ensures.1 c.waits.ensures ∙ c.if-not-waits.false) _
     (withdrawn_is m c.args.h _ c.args.offset _ c.list-l.ensures c.reach-k.ensures)

@@ -9,29 +9,29 @@ use Rattle.walk.proofs.in_body.Goals as goal
 pub loop-h-init : goal.loop-h-init
 loop-h-init c = walking_start (any (holds_word _)) _ _
 
-pub returns-then-img-h : goal.returns-then-img-h
+pub returns : goal.returns
 unfolding any
-returns-then-img-h c = walking_end c.loop-h.invariant c.if-img-h.true
+returns c = walking_end c.loop-h.invariant c.loop-h-test.false
 
-pub read-c-requires-clause-header_bytes_in_bounds : goal.read-c-requires-clause-header_bytes_in_bounds
-read-c-requires-clause-header_bytes_in_bounds c =
-    let i = walking_inside c.loop-h.invariant c.if-img-h.false c.requires in omega arith
+pub read-c-requires-clause-in_image : goal.read-c-requires-clause-in_image
+read-c-requires-clause-in_image c =
+    let i = walking_inside c.loop-h.invariant c.loop-h-test.true c.requires in omega arith
 
-pub holds-requires-clause-nbytes_bound : goal.holds-requires-clause-nbytes_bound
-holds-requires-clause-nbytes_bound c =
-    let i = walking_inside c.loop-h.invariant c.if-img-h.false c.requires in omega (arith, c.read-c.ensures.0)
+pub holds-requires-clause-end_fits : goal.holds-requires-clause-end_fits
+holds-requires-clause-end_fits c =
+    let i = walking_inside c.loop-h.invariant c.loop-h-test.true c.requires in omega (arith, c.read-c.ensures.nbytes)
 
 pub returns-then-holds : goal.returns-then-holds
-returns-then-holds c = walking_hit c.loop-h.invariant c.if-img-h.false _ (λ t. any_hit _ _ t (cc))
+returns-then-holds c = walking_hit c.loop-h.invariant c.loop-h-test.true _ (λ t. any_hit _ _ t (cc))
 
 pub overflow_add-h : goal.overflow_add-h
-overflow_add-h c = let i = walking_inside c.loop-h.invariant c.if-img-h.false c.requires in omega (arith, c.read-c.ensures.0)
+overflow_add-h c = let i = walking_inside c.loop-h.invariant c.loop-h-test.true c.requires in omega (arith, c.read-c.ensures.nbytes)
 
 pub loop-h-smaller : goal.loop-h-smaller
-loop-h-smaller c = let i = walking_inside c.loop-h.invariant c.if-img-h.false c.requires in omega (arith, c.read-c.ensures.0)
+loop-h-smaller c = let i = walking_inside c.loop-h.invariant c.loop-h-test.true c.requires in omega (arith, c.read-c.ensures.nbytes)
 
 pub loop-h-preserved : goal.loop-h-preserved
 loop-h-preserved c =
-    let i = walking_inside c.loop-h.invariant c.if-img-h.false c.requires in
-    rw c.read-c.ensures.0
-    (walking_move c.loop-h.invariant c.if-img-h.false (omega arith) i.whole _ (λ t. any_pass _ _ t (cc)))
+    let i = walking_inside c.loop-h.invariant c.loop-h-test.true c.requires in
+    rw c.read-c.ensures.nbytes
+    (walking_move c.loop-h.invariant c.loop-h-test.true (omega arith) i.whole _ (λ t. any_pass _ _ t (cc)))

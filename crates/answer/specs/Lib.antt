@@ -1,0 +1,2 @@
+-- What the contracts of `answer` cite beside the rules.
+pub mod Refusals

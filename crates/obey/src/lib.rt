@@ -7,19 +7,14 @@ ghost use Rattle.line.specs.Lines.{line_of, fuse_after};
 ghost use Rattle.obey.specs.Obeying.{image_after};
 
 use line::Line;
+use streams::Told;
 
 mod say;
 
-// What a line leaves: the fuse that the next request has, and whether what the line prints was written.
-#[derive(Clone, Copy)]
-pub struct Obeyed {
-    pub fuse: u64,
-    pub said: bool,
-}
-
-// "A request prints answer, place and stores; `walk` prints offset, nbytes and state of each clump." A fuse prints nothing. Answers
-// whether all was written.
-pub fn obey(rt: &(impl Print + Eprint), img: &mut [u8], l: Line, fuse: u64) -> bool
+// "A request prints answer, place and stores; `walk` prints offset, nbytes and state of each clump." A fuse prints nothing. Whether it
+// could be printed or not, the line is obeyed.
+#[tactic(auto, unfolding(crate::specs::Obeying::image_after))]
+pub fn obey(rt: &(impl Print + Eprint), img: &mut [u8], l: Line, fuse: u64) -> Result<(), Told>
     ensures { img.new ≡ image_after img.old l fuse }
 {
     match l {
@@ -27,21 +22,24 @@ pub fn obey(rt: &(impl Print + Eprint), img: &mut [u8], l: Line, fuse: u64) -> b
             let a = pool::ask(img, q, fuse);
             say::reply(rt, a)
         }
-        Line::Fuse { k: _ } => true,
+        Line::Fuse { k: _ } => Ok(()),
         Line::Walk => say::clumps(rt, img),
         Line::Bad => say::question(rt),
     }
 }
 
-// A whole line, without its newline.
-pub fn line_end(rt: &(impl Print + Eprint), img: &mut [u8], text: &[u8], fuse: u64) -> Obeyed
-    ensures img_after { img.new ≡ image_after img.old (line_of text.now) fuse }
-    ensures fuse_value { result.fuse ≡ fuse_after fuse (line_of text.now) }
+// A whole line, without its newline. The fuse is then the one that the next request has, whether the line could be printed or not.
+pub fn line_end(
+    rt: &(impl Print + Eprint),
+    img: &mut [u8],
+    text: &[u8],
+    fuse: &mut u64,
+) -> Result<(), Told>
+    ensures img_after { img.new ≡ image_after img.old (line_of text.now) fuse.old }
+    ensures fuse_value { fuse.new ≡ fuse_after fuse.old (line_of text.now) }
 {
     let l = line::read(text);
-    let said = obey(rt, img, l, fuse);
-    Obeyed {
-        fuse: line::fuse_after(fuse, l),
-        said,
-    }
+    let said = obey(rt, img, l, *fuse);
+    *fuse = line::fuse_after(*fuse, l);
+    said
 }

@@ -4,18 +4,16 @@
 // contracts say which of them were read or written; of a descriptor's nobody can say that.
 #![tactic(auto)]
 
-ghost use Rattle.std.specs.Prelude.{◌≡◌, ℕ, ◌<◌, ◌≤◌, true, false, length, take};
+ghost use Rattle.std.specs.Prelude.{◌≡◌, ℕ, ◌<◌, ◌≤◌, length, take, IfOk, OnOk};
 ghost use Rattle.std.specs.Io.KnownBytes.{Appends, Consumes, IsAtEnd};
+ghost use Rattle.std.specs.Result.{result_unwrap_or};
 
 use std::fmt::InlineText;
 use std::io::{Error, ErrorKind, Read, Write};
 
-// What a read brought: how many bytes, none at the end of the input; or that it failed, which is told already.
-#[derive(Clone, Copy)]
-pub struct Got {
-    pub count: usize,
-    pub failed: bool,
-}
+// The failure of a read or a write, which is told already on standard error.
+#[derive(Clone, Copy, Debug, PartialEq, Eq)]
+pub struct Told;
 
 // Tells on standard error what failed and why. What the system says of an error stands in front of its number, which is left out.
 pub fn fail(rt: &impl Eprint, what: &str, error: Error) {
@@ -34,23 +32,23 @@ fn interrupted(error: &Error) -> bool {
     error.kind() == ErrorKind::Interrupted
 }
 
-// Reads once. `what` is the name that a failure is told under. A proved loop has to end, so that it counts its turns, up to a number
-// that no run uses up.
-pub fn read_some<I: Read>(rt: &impl Eprint, input: &mut I, what: &str, chunk: &mut [u8]) -> Got
-    ensures within { result.count ≤ length chunk.new }
-    ensures part { result.count ≡ length (take result.count chunk.new) }
-    ensures bytes { Consumes (I.remaining input.old) (I.remaining input.new) (take result.count chunk.new) }
-    ensures end { result.failed ≡ false → result.count ≡ 0 → 0 < length chunk.old → IsAtEnd (I.remaining input.new) }
+// Reads once, and answers with how many bytes came: none at the end of the input. `what` is the name that a failure is told under; a
+// read that failed took nothing. A proved loop has to end, so that it counts its turns, up to a number that no run uses up.
+pub fn read_some<I: Read>(
+    rt: &impl Eprint,
+    input: &mut I,
+    what: &str,
+    chunk: &mut [u8],
+) -> Result<usize, Told>
+    ensures within { result_unwrap_or result 0 ≤ length chunk.new }
+    ensures part { result_unwrap_or result 0 ≡ length (take (result_unwrap_or result 0) chunk.new) }
+    ensures bytes { Consumes (I.remaining input.old) (I.remaining input.new) (take (result_unwrap_or result 0) chunk.new) }
+    ensures end { IfOk result (λ n. n ≡ 0 → 0 < length chunk.old → IsAtEnd (I.remaining input.new)) }
 {
     let mut why = Error::from(ErrorKind::Interrupted);
     for _ in 0..u64::MAX {
         match input.read(chunk) {
-            Ok(count) => {
-                return Got {
-                    count,
-                    failed: false,
-                };
-            }
+            Ok(count) => return Ok(count),
             Err(error) => why = error,
         }
         if !interrupted(&why) {
@@ -58,28 +56,26 @@ pub fn read_some<I: Read>(rt: &impl Eprint, input: &mut I, what: &str, chunk: &m
         }
     }
     fail(rt, what, why);
-    Got {
-        count: 0,
-        failed: true,
-    }
+    Err(Told)
 }
 
-// Writes a part, and answers with how many bytes were taken; 0 where the write failed, which is told already. One that takes nothing
-// counts as failed.
-fn write_some<O: Write>(rt: &impl Eprint, output: &mut O, what: &str, bytes: &[u8]) -> usize
-    ensures within { result ≤ length bytes.now }
-    ensures part { result ≡ length (take result bytes.now) }
-    ensures bytes { Appends (O.contents output.old) (O.contents output.new) (take result bytes.now) }
+// Writes a part, and answers with how many bytes were taken. One that takes nothing counts as failed, and one that failed took nothing.
+fn write_some<O: Write>(
+    rt: &impl Eprint,
+    output: &mut O,
+    what: &str,
+    bytes: &[u8],
+) -> Result<usize, Told>
+    ensures within { result_unwrap_or result 0 ≤ length bytes.now }
+    ensures part { result_unwrap_or result 0 ≡ length (take (result_unwrap_or result 0) bytes.now) }
+    ensures bytes { Appends (O.contents output.old) (O.contents output.new) (take (result_unwrap_or result 0) bytes.now) }
+    ensures some { IfOk result (λ n. 0 < n) }
 {
     let mut why = Error::from(ErrorKind::Interrupted);
     for _ in 0..u64::MAX {
         match output.write(bytes) {
-            Ok(put) => {
-                if put > 0 {
-                    return put;
-                }
-                why = Error::from(ErrorKind::WriteZero);
-            }
+            Ok(0) => why = Error::from(ErrorKind::WriteZero),
+            Ok(put) => return Ok(put),
             Err(error) => why = error,
         }
         if !interrupted(&why) {
@@ -87,21 +83,23 @@ fn write_some<O: Write>(rt: &impl Eprint, output: &mut O, what: &str, bytes: &[u
         }
     }
     fail(rt, what, why);
-    0
+    Err(Told)
 }
 
-// Writes all of the bytes. False where a write failed.
-pub fn write_whole<O: Write>(rt: &impl Eprint, output: &mut O, what: &str, bytes: &[u8]) -> bool
-    ensures whole { result ≡ true → Appends (O.contents output.old) (O.contents output.new) bytes.now }
+// Writes all of the bytes. The library's `write_all` doesn't say that what a failed one wrote is the first of them.
+pub fn write_whole<O: Write>(
+    rt: &impl Eprint,
+    output: &mut O,
+    what: &str,
+    bytes: &[u8],
+) -> Result<(), Told>
+    ensures whole { OnOk result (Appends (O.contents output.old) (O.contents output.new) bytes.now) }
     ensures part { (n : ℕ) × Appends (O.contents output.old) (O.contents output.new) (take n bytes.now) }
 {
-    let mut done: usize = 0;
-    while done < bytes.len() {
-        let put = write_some(rt, output, what, &bytes[done..]);
-        if put == 0 {
-            return false;
-        }
-        done += put;
+    let mut rest = bytes;
+    while !rest.is_empty() {
+        let put = write_some(rt, output, what, rest)?;
+        rest = &rest[put..];
     }
-    true
+    Ok(())
 }

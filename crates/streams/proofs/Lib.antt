@@ -1,2 +1,0 @@
--- The lemmas of the loops.
-pub mod Known

@@ -1,10 +1,10 @@
 -- What the numbers of a line ask: LENGTH FILL K OFFSET1 WORD1 .. OFFSETK WORDK REQUEST A B C FUSE. Assumes nothing.
-use Rattle.std.specs.Prelude.{ℕ, ◌+◌, ◌*◌, ◌≤◌, ◌≡◌, refl, Bool, true, false, cond, List, eqb, ltb, get_or}
-use Rattle.std.proofs.Common.{arith, ltb-false}
+use Rattle.std.specs.Prelude.{ℕ, ◌+◌, ◌*◌, ◌≤◌, ◌≡◌, refl, Bool, true, false, cond, List, Option, None, Some, eqb, ltb, get_or}
+use Rattle.std.proofs.Common.{ap, arith, ltb-false}
 use Rattle.rules.specs.declared.Request.{Request}
 use Rattle.rules.specs.declared.Request.TheVariants.{Create, Reserve, ReserveUncleared, Grow, Onactive, Onfree, Withdraw, Activate, Free, Check, Recover}
 use Rattle.case.specs.declared.Case.{Case}
-use Rattle.case.specs.declared.Case.TheVariants.{Asked, Malformed}
+use Rattle.case.specs.declared.line.Numbers.{Numbers}
 
 abbrev pub most_length : ℕ
 most_length = 65536
@@ -43,37 +43,44 @@ abbrev pub request_at : List ℕ → ℕ
 request_at ns = 3 + 2 * at ns 2
 
 abbrev pub asked : List ℕ → ℕ → Case
-asked ns i = Asked (at ns 0) (at ns 1) (at ns 2) (request_of (at ns i) (at ns (i + 1)) (at ns (i + 2)) (at ns (i + 3))) (at ns (i + 4))
+asked ns i = record {
+  length = at ns 0;
+  fill = at ns 1;
+  words = at ns 2;
+  request = request_of (at ns i) (at ns (i + 1)) (at ns (i + 2)) (at ns (i + 3));
+  fuse = at ns (i + 4);
+}
 
--- the case of the first `count` numbers
-abbrev pub case_of : List ℕ → ℕ → Case
-case_of ns count =
-    cond (ltb most_length (at ns 0)) Malformed
-    (cond (ltb most_fill (at ns 1)) Malformed
-    (cond (ltb most_words (at ns 2)) Malformed
-    (cond (eqb count (request_at ns + 5))
-    (cond (ltb most_request (at ns (request_at ns))) Malformed (asked ns (request_at ns)))
-    Malformed)))
+-- the case of a line's numbers
+abbrev pub case_of : Numbers → Option Case
+case_of ns =
+    cond (ltb most_length (at ns.items 0)) None
+    (cond (ltb most_fill (at ns.items 1)) None
+    (cond (ltb most_words (at ns.items 2)) None
+    (cond (eqb ns.count (request_at ns.items + 5))
+    (cond (ltb most_request (at ns.items (request_at ns.items))) None (Some (asked ns.items (request_at ns.items))))
+    None)))
 
 -- a case is within its bounds
 pub asked-within :
-    (ns : List ℕ) (count n b k : ℕ) (q : Request) (fuse : ℕ)
-    → case_of ns count ≡ Asked n b k q fuse
-    → (n ≤ most_length) × (k ≤ most_words)
-asked-within ns count n b k q fuse = go (ltb most_length (at ns 0)) refl (ltb most_fill (at ns 1)) (ltb most_words (at ns 2)) refl (eqb count (request_at ns + 5)) (ltb most_request (at ns (request_at ns)))
+    (ns : Numbers) (c : Case)
+    → case_of ns ≡ Some c
+    → (c.length ≤ most_length) × (c.words ≤ most_words)
+asked-within ns c = go (ltb most_length (at ns.items 0)) refl (ltb most_fill (at ns.items 1)) (ltb most_words (at ns.items 2)) refl (eqb ns.count (request_at ns.items + 5)) (ltb most_request (at ns.items (request_at ns.items)))
   where
     go :
-        (t : Bool) → ltb most_length (at ns 0) ≡ t
-        → (f w : Bool) → ltb most_words (at ns 2) ≡ w
-        → (c d : Bool)
-        → cond t Malformed (cond f Malformed (cond w Malformed (cond c (cond d Malformed (asked ns (request_at ns))) Malformed))) ≡ Asked n b k q fuse
-        → (n ≤ most_length) × (k ≤ most_words)
-    go true p f w r c d e = absurd (let z : ◌≡◌ {A = ℕ} 0 1 = cc in omega arith)
-    go false p true w r c d e = absurd (let z : ◌≡◌ {A = ℕ} 0 1 = cc in omega arith)
-    go false p false true r c d e = absurd (let z : ◌≡◌ {A = ℕ} 0 1 = cc in omega arith)
+        (t : Bool) → ltb most_length (at ns.items 0) ≡ t
+        → (f w : Bool) → ltb most_words (at ns.items 2) ≡ w
+        → (k d : Bool)
+        → cond t None (cond f None (cond w None (cond k (cond d None (Some (asked ns.items (request_at ns.items)))) None))) ≡ Some c
+        → (c.length ≤ most_length) × (c.words ≤ most_words)
+    go true p f w r k d e = absurd (let z : ◌≡◌ {A = ℕ} 0 1 = cc in omega arith)
+    go false p true w r k d e = absurd (let z : ◌≡◌ {A = ℕ} 0 1 = cc in omega arith)
+    go false p false true r k d e = absurd (let z : ◌≡◌ {A = ℕ} 0 1 = cc in omega arith)
     go false p false false r false d e = absurd (let z : ◌≡◌ {A = ℕ} 0 1 = cc in omega arith)
     go false p false false r true true e = absurd (let z : ◌≡◌ {A = ℕ} 0 1 = cc in omega arith)
     go false p false false r true false e =
-        let x : at ns 0 ≡ n = (cc) in
-        let y : at ns 2 ≡ k = (cc) in
-        (omega (arith, ltb-false most_length (at ns 0) p), omega (arith, ltb-false most_words (at ns 2) r))
+        let h : asked ns.items (request_at ns.items) ≡ c = cc in
+        let x : at ns.items 0 ≡ c.length = ap (λ (k : Case). k.length) h in
+        let y : at ns.items 2 ≡ c.words = ap (λ (k : Case). k.words) h in
+        (omega (arith, ltb-false most_length (at ns.items 0) p), omega (arith, ltb-false most_words (at ns.items 2) r))

@@ -5,21 +5,19 @@
 ghost use Rattle.std.specs.Prelude.{◌≡◌};
 ghost use Rattle.case.specs.Cases.{request_of, case_of};
 
+use line::Numbers;
 use rules::Request;
 
 pub mod line;
 
-// A case, its words left in the numbers; or numbers that are none.
+// A case, its words left in the numbers.
 #[derive(Clone, Copy)]
-pub enum Case {
-    Asked {
-        length: usize,
-        fill: u8,
-        words: usize,
-        request: Request,
-        fuse: u64,
-    },
-    Malformed,
+pub struct Case {
+    pub length: usize,
+    pub fill: u8,
+    pub words: usize,
+    pub request: Request,
+    pub fuse: u64,
 }
 
 // The request of that number; 10 and what is above it are grow.
@@ -50,36 +48,28 @@ fn request_of(q: u64, a: u64, b: u64, c: u64) -> Request
     }
 }
 
-// The case of the first `count` numbers.
-pub fn case_of(numbers: &[u64; 256], count: usize) -> Case
-    ensures { result ≡ case_of numbers.now count }
+// The case of a line's numbers; none where they are malformed.
+pub fn case_of(numbers: &Numbers) -> Option<Case>
+    ensures { result ≡ case_of numbers.now }
 {
-    let length = numbers[0];
-    let fill = numbers[1];
-    let words = numbers[2];
-    if 65536 < length {
-        return Case::Malformed;
+    let [length, fill, words, ..] = numbers.items;
+    if length > 65536 || words > 120 {
+        return None;
     }
-    if 255 < fill {
-        return Case::Malformed;
+    let fill = u8::try_from(fill).ok()?;
+    let words = words as usize;
+    let at = 3 + 2 * words;
+    let [q, a, b, c, fuse] = numbers.items.get(at..numbers.count)? else {
+        return None;
+    };
+    if *q > 10 {
+        return None;
     }
-    if 120 < words {
-        return Case::Malformed;
-    }
-    let k = words as usize;
-    let at = 3 + 2 * k;
-    if count != at + 5 {
-        return Case::Malformed;
-    }
-    let q = numbers[at];
-    if 10 < q {
-        return Case::Malformed;
-    }
-    Case::Asked {
+    Some(Case {
         length: length as usize,
-        fill: fill as u8,
-        words: k,
-        request: request_of(q, numbers[at + 1], numbers[at + 2], numbers[at + 3]),
-        fuse: numbers[at + 4],
-    }
+        fill,
+        words,
+        request: request_of(*q, *a, *b, *c),
+        fuse: *fuse,
+    })
 }

@@ -1,9 +1,10 @@
-// A line of the cases, taken a byte at a time: decimal numbers parted by one space. The numbers that are whole stand in an array beside
-// it. Takes any bytes; what no number can have makes the line malformed, and it stays so.
-ghost use Rattle.std.specs.Prelude.{◌≡◌, ◌<◌, ltb};
-ghost use Rattle.case.specs.Lines.{most, with_next, with_digit, read_byte, started, reads, counted, kept, line_ended, numbers_ended, line_taken, numbers_taken, next_case};
+// A line of the cases, taken a byte at a time: decimal numbers parted by one space. Takes any bytes; what no number can have makes the
+// line malformed, and it stays so.
+ghost use Rattle.std.specs.Prelude.{◌≡◌};
+ghost use Rattle.case.specs.Lines.{with_next, with_digit, read_byte, started, begun, counted, line_ended, line_taken, next_case};
 
-// The number under way: no digit yet, the number so far, or malformed.
+// The number under way: no digit yet, the number so far, or malformed. (Three states, each with a name; an Option within a Result would
+// be no plainer.)
 #[derive(Clone, Copy)]
 pub enum Reading {
     Nothing,
@@ -11,46 +12,35 @@ pub enum Reading {
     Malformed,
 }
 
-// The case's number, how many numbers are whole, and the one under way.
+// Room for the numbers of a line, and how many of them are whole. What stands behind those is of lines before.
+#[derive(Clone, Copy)]
+pub struct Numbers {
+    pub items: [u64; 256],
+    pub count: usize,
+}
+
+// The case's number, the numbers that are whole, and the one under way.
 #[derive(Clone, Copy)]
 pub struct Line {
     pub case: u64,
-    pub count: usize,
+    pub numbers: Numbers,
     pub reading: Reading,
 }
 
-impl Line {
-    // A line of which nothing is read.
-    pub fn new(case: u64) -> Self
-        ensures { result ≡ started case }
-    {
-        Line {
-            case,
-            count: 0,
-            reading: Reading::Nothing,
-        }
-    }
-}
-
 // The number with one digit more, where that is below 2^64.
-fn with_next(n: u64, d: u64) -> Reading
-    requires { d < 10 }
+fn with_next(n: u64, d: u64) -> Option<u64>
     ensures { result ≡ with_next n d }
 {
-    if n <= (18446744073709551615 - d) / 10 {
-        return Reading::Number(n * 10 + d);
-    }
-    Reading::Malformed
+    n.checked_mul(10)?.checked_add(d)
 }
 
 // The number under way with one digit more.
 fn with_digit(r: Reading, d: u64) -> Reading
-    requires { d < 10 }
     ensures { result ≡ with_digit r d }
 {
     match r {
         Reading::Nothing => Reading::Number(d),
-        Reading::Number(n) => with_next(n, d),
+        Reading::Number(n) => with_next(n, d).map_or(Reading::Malformed, Reading::Number),
         Reading::Malformed => Reading::Malformed,
     }
 }
@@ -59,71 +49,76 @@ fn with_digit(r: Reading, d: u64) -> Reading
 fn read_byte(r: Reading, b: u8) -> Reading
     ensures { result ≡ read_byte r b }
 {
-    if b < b'0' {
-        return Reading::Malformed;
-    }
-    if b'9' < b {
+    if !b.is_ascii_digit() {
         return Reading::Malformed;
     }
     with_digit(r, (b - b'0') as u64)
 }
 
-// The line with another number under way.
-fn with_reading(l: Line, r: Reading) -> Line
-    ensures { result ≡ reads l r }
-{
-    Line {
-        case: l.case,
-        count: l.count,
-        reading: r,
-    }
-}
-
-// A number put behind the others, where it has room.
-fn add(l: Line, n: u64, numbers: &mut [u64; 256]) -> Line
-    ensures { (result ≡ counted l (ltb l.count most)) × (numbers.new ≡ kept l n (ltb l.count most) numbers.old) }
-{
-    let at = l.count;
-    if at < 256 {
-        numbers[at] = n;
-        return Line {
-            case: l.case,
-            count: at + 1,
+impl Line {
+    // A line of which nothing is read.
+    pub fn new(case: u64) -> Self
+        ensures { result ≡ begun case }
+    {
+        Line {
+            case,
+            numbers: Numbers {
+                items: [0; 256],
+                count: 0,
+            },
             reading: Reading::Nothing,
-        };
+        }
     }
-    with_reading(l, Reading::Malformed)
-}
 
-// The end of a number. With no number there the line is malformed.
-pub fn put(l: Line, numbers: &mut [u64; 256]) -> Line
-    ensures { (result ≡ line_ended l) × (numbers.new ≡ numbers_ended l numbers.old) }
-{
-    let r = l.reading;
-    match r {
-        Reading::Nothing => with_reading(l, Reading::Malformed),
-        Reading::Number(n) => add(l, n, numbers),
-        Reading::Malformed => l,
+    // The next line, of which nothing is read.
+    pub fn start_next(&mut self)
+        ensures { self.new ≡ started (next_case self.old.case) self.old.numbers.items }
+    {
+        self.case = next(self.case);
+        self.numbers.count = 0;
+        self.reading = Reading::Nothing;
     }
-}
 
-// One byte of a line, not its end.
-pub fn take(l: Line, b: u8, numbers: &mut [u64; 256]) -> Line
-    ensures { (result ≡ line_taken l b) × (numbers.new ≡ numbers_taken l b numbers.old) }
-{
-    if b == b' ' {
-        return put(l, numbers);
+    // A number put behind the others, where it has room.
+    fn add(&mut self, n: u64)
+        ensures { self.new ≡ counted self.old n }
+    {
+        let at = self.numbers.count;
+        if at >= 256 {
+            self.reading = Reading::Malformed;
+            return;
+        }
+        self.numbers.items[at] = n;
+        self.numbers.count = at + 1;
+        self.reading = Reading::Nothing;
     }
-    let r = l.reading;
-    with_reading(l, read_byte(r, b))
+
+    // The end of a number. With no number there the line is malformed.
+    pub fn put(&mut self)
+        ensures { self.new ≡ line_ended self.old }
+    {
+        match self.reading {
+            Reading::Nothing => self.reading = Reading::Malformed,
+            Reading::Number(n) => self.add(n),
+            Reading::Malformed => {}
+        }
+    }
+
+    // One byte of a line, not its end.
+    pub fn take(&mut self, b: u8)
+        ensures { self.new ≡ line_taken self.old b }
+    {
+        if b == b' ' {
+            self.put();
+        } else {
+            self.reading = read_byte(self.reading, b);
+        }
+    }
 }
 
 // The number of the next case. No run comes to the last.
 pub fn next(case: u64) -> u64
     ensures { result ≡ next_case case }
 {
-    if case == 18446744073709551615 {
-        return case;
-    }
-    case + 1
+    case.saturating_add(1)
 }

@@ -1,9 +1,7 @@
 -- The line that a case gets: its fields in decimal, parted by one space; or `bad` after its number. Assumes nothing.
-use Rattle.std.specs.Prelude.{ℕ, zero, suc, List, [], ◌∷◌, ◌++◌, get_or}
+use Rattle.std.specs.Prelude.{ℕ, zero, suc, Option, None, Some, List, [], ◌∷◌, ◌++◌, get_or}
 use Rattle.text.specs.Texts.{space, newline, field}
 use Rattle.outcome.specs.declared.Outcome.{Outcome}
-use Rattle.outcome.specs.declared.Ran.{Ran}
-use Rattle.outcome.specs.declared.Ran.TheVariants.{Done, Malformed}
 
 -- a buffer of this many bytes holds every line: thirteen numbers
 abbrev pub line_bytes : ℕ
@@ -40,6 +38,6 @@ bad = 98 ∷ 97 ∷ 100 ∷ newline ∷ []
 abbrev pub line_of : List ℕ → List ℕ
 line_of ns = spaced ns 12 ++ field (get_or ns 12 0) newline
 
-abbrev pub text_of : ℕ → Ran → List ℕ
-text_of n (Done o) = line_of (fields_of n o)
-text_of n Malformed = field n space ++ bad
+abbrev pub text_of : ℕ → Option Outcome → List ℕ
+text_of n (Some o) = line_of (fields_of n o)
+text_of n None = field n space ++ bad

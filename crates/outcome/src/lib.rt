@@ -3,9 +3,8 @@
 // pool or writes output.
 #![tactic(auto)]
 
-ghost use Rattle.std.specs.Prelude.{◌≡◌, ◌≤◌, length};
+ghost use Rattle.std.specs.Prelude.{◌≡◌, ◌≤◌, None, Some, length};
 ghost use Rattle.text.specs.Writing.{Wrote};
-ghost use Rattle.outcome.specs.declared.Ran.TheVariants.{Done, Malformed};
 ghost use Rattle.outcome.specs.Texts.{line_bytes, fields_of, text_of};
 
 use rules::{Answer, Totals};
@@ -18,13 +17,6 @@ pub struct Outcome {
     pub answer: Answer,
     pub totals: Totals,
     pub sum: u64,
-}
-
-// What a case leads to.
-#[derive(Clone, Copy)]
-pub enum Ran {
-    Done(Outcome),
-    Malformed,
 }
 
 // N ANSWER PLACE FAULT STORES FROM TO FREE RESERVED ACTIVATING ACTIVE FREEING SUM
@@ -53,15 +45,13 @@ fn fields(case: u64, o: Outcome) -> [u64; 13]
 // The line of a case that was run.
 fn done(out: &mut [u8], case: u64, o: Outcome) -> usize
     requires { line_bytes ≤ length out.old }
-    ensures wrote { Wrote out.old 0 (text_of case (Done o)) out.new result }
+    ensures wrote { Wrote out.old 0 (text_of case (Some o)) out.new result }
     ensures upper_bound { result ≤ line_bytes }
 {
     let f = fields(case, o);
     let mut at: usize = 0;
-    let mut i: usize = 0;
-    while i < 12 {
-        at = text::number(out, at, f[i], b' ');
-        i += 1;
+    for n in &f[..12] {
+        at = text::number(out, at, *n, b' ');
     }
     text::number(out, at, f[12], b'\n')
 }
@@ -69,21 +59,21 @@ fn done(out: &mut [u8], case: u64, o: Outcome) -> usize
 // The line of a malformed one.
 fn malformed(out: &mut [u8], case: u64) -> usize
     requires { line_bytes ≤ length out.old }
-    ensures wrote { Wrote out.old 0 (text_of case Malformed) out.new result }
+    ensures wrote { Wrote out.old 0 (text_of case None) out.new result }
     ensures upper_bound { result ≤ line_bytes }
 {
     let at = text::number(out, 0, case, b' ');
     text::bytes(out, at, b"bad\n")
 }
 
-// The line of a case, by its number and what it leads to. Answers with how long it is.
-pub fn line(out: &mut [u8], case: u64, ran: Ran) -> usize
+// The line of a case, by its number and what it leads to; none where it is malformed. Answers with how long it is.
+pub fn line(out: &mut [u8], case: u64, ran: Option<Outcome>) -> usize
     requires { line_bytes ≤ length out.old }
     ensures wrote { Wrote out.old 0 (text_of case ran) out.new result }
     ensures upper_bound { result ≤ line_bytes }
 {
     match ran {
-        Ran::Done(o) => done(out, case, o),
-        Ran::Malformed => malformed(out, case),
+        Some(o) => done(out, case, o),
+        None => malformed(out, case),
     }
 }

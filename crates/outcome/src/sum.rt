@@ -16,10 +16,8 @@ pub fn checksum(img: &[u8]) -> u64
     ensures { result ≡ sum_of img.now }
 {
     let mut s: u64 = 0;
-    let mut i: usize = 0;
-    while i < img.len() {
-        s = step(s, img[i]);
-        i += 1;
+    for b in img {
+        s = step(s, *b);
     }
     s
 }

@@ -3,18 +3,16 @@
 use Prim.Native.Nat.{ℕ, zero, suc, ◌+◌, ◌*◌, ◌%◌, ◌≤◌, ◌<◌}
 use Rattle.std.proofs.Math.Path.{◌≡◌, refl, sym, ap}
 use Rattle.std.proofs.Common.{◌∙◌, arith, add-one}
-use Rattle.std.specs.Prelude.{Bool, ◌&&◌, List, [], ◌∷◌, leb, length, take}
+use Rattle.std.specs.Prelude.{Bool, ◌&&◌, None, Some, List, [], ◌∷◌, leb, length, take}
 use Rattle.std.proofs.Math.Bool.{true, false}
 use Rattle.std.proofs.Math.Dec.{eqb}
 use Rattle.std.proofs.lemmas.List.{length-replicate}
 use borrow.Author.Tests.{eqb-true, eqb-false, leb-true}
-use Rattle.rules.specs.declared.Request.{Request}
 use Rattle.rules.specs.Words.{Image, store, word_bytes, carry}
 use Rattle.word.specs.Memory.{carry-append}
 use Rattle.case.specs.Cases.{at}
-use Rattle.case.specs.declared.Case.TheVariants.{Asked}
+use Rattle.case.specs.declared.Case.{Case}
 use Rattle.outcome.specs.declared.Outcome.{Outcome}
-use Rattle.outcome.specs.declared.Ran.TheVariants.{Done, Malformed}
 use Rattle.trial.specs.Outcomes.{lies, words, all_lie, outcome_of, filled, ran_of}
 
 -- a word that lies in the image is aligned and inside
@@ -91,12 +89,14 @@ pub filled_count : (x : Image) (b n m : ℕ) → x ≡ filled b m → n ≤ m �
 filled_count x b n m e l = rw (filled_front x b n m e l) (sym (length-filled b n))
 
 -- a filled image with the words put in, or not
-module _ (ns : List ℕ) (n b k : ℕ) (q : Request) (fuse : ℕ) (img : Image) (z : img ≡ filled b n) (t : Bool) (e : t ≡ all_lie (length img) ns k) where
-  fits : all_lie n ns k ≡ t
-  fits = ap (λ (l : ℕ). all_lie l ns k) (sym (length-filled b n)) ∙ ap (λ (x : Image). all_lie (length x) ns k) (sym z) ∙ sym e
+module _ (ns : List ℕ) (c : Case) (img : Image) (z : img ≡ filled c.fill c.length) (t : Bool) (e : t ≡ all_lie (length img) ns c.words) where
+  fits : all_lie c.length ns c.words ≡ t
+  fits =
+      ap (λ (l : ℕ). all_lie l ns c.words) (sym (length-filled c.fill c.length))
+      ∙ ap (λ (x : Image). all_lie (length x) ns c.words) (sym z) ∙ sym e
 
-  pub ran_not : t ≡ false → Malformed ≡ ran_of ns (Asked n b k q fuse)
+  pub ran_not : t ≡ false → None ≡ ran_of ns (Some c)
   ran_not f = rw (fits ∙ f)
 
-  pub ran_done : t ≡ true → (x : Image) → x ≡ carry img (words ns k) → (o : Outcome) → o ≡ outcome_of x q fuse → Done o ≡ ran_of ns (Asked n b k q fuse)
-  ran_done f x c o d = rw (fits ∙ f, d, c, z)
+  pub ran_done : t ≡ true → (x : Image) → x ≡ carry img (words ns c.words) → (o : Outcome) → o ≡ outcome_of x c.request c.fuse → Some o ≡ ran_of ns (Some c)
+  ran_done f x k o d = rw (fits ∙ f, d, k, z)

@@ -1,18 +1,16 @@
 -- What a case leads to: the image with its fill and its words, and what the request answers and leaves by the rules. Assumes nothing.
-use Rattle.std.specs.Prelude.{ℕ, zero, suc, ◌+◌, ◌*◌, ◌%◌, Bool, true, cond, ◌&&◌, List, [], ◌∷◌, ◌++◌, eqb, leb, replicate}
+use Rattle.std.specs.Prelude.{ℕ, zero, suc, ◌+◌, ◌*◌, ◌%◌, Bool, true, cond, Option, None, Some, ◌&&◌, List, [], ◌∷◌, ◌++◌, eqb, leb, replicate}
 use Rattle.rules.specs.declared.Request.{Request}
 use Rattle.rules.specs.Words.{Image, Store, store, word_bytes, carry}
 use Rattle.rules.specs.Requests.{cut, answer_on, totals_on}
 use Rattle.case.specs.Cases.{at, case_of}
 use Rattle.case.specs.declared.line.Line.{Line}
+use Rattle.case.specs.declared.line.Numbers.{Numbers}
 use Rattle.case.specs.declared.line.Reading.{Reading}
-use Rattle.case.specs.declared.line.Reading.TheVariants.{Nothing, Number, Malformed as Bad}
+use Rattle.case.specs.declared.line.Reading.TheVariants.{Nothing, Number, Malformed}
 use Rattle.case.specs.declared.Case.{Case}
-use Rattle.case.specs.declared.Case.TheVariants.{Asked, Malformed as NoCase}
 use Rattle.outcome.specs.Sums.{sum_of}
 use Rattle.outcome.specs.declared.Outcome.{Outcome}
-use Rattle.outcome.specs.declared.Ran.{Ran}
-use Rattle.outcome.specs.declared.Ran.TheVariants.{Done, Malformed}
 
 -- whether a word lies at that offset of an image of n bytes
 abbrev pub lies : ℕ → ℕ → Bool
@@ -41,15 +39,16 @@ abbrev pub image_of : List ℕ → ℕ → ℕ → ℕ → Image
 image_of ns n b k = carry (filled b n) (words ns k)
 
 -- what a case leads to
-abbrev pub ran_of : List ℕ → Case → Ran
-ran_of ns NoCase = Malformed
-ran_of ns (Asked n b k q fuse) = cond (all_lie n ns k) (Done (outcome_of (image_of ns n b k) q fuse)) Malformed
+abbrev pub ran_of : List ℕ → Option Case → Option Outcome
+ran_of ns None = None
+ran_of ns (Some c) =
+    cond (all_lie c.length ns c.words) (Some (outcome_of (image_of ns c.length c.fill c.words) c.request c.fuse)) None
 
 -- what a line leads to that is read to its end
-abbrev pub ran_for : Reading → ℕ → List ℕ → Ran
-ran_for Nothing count ns = ran_of ns (case_of ns count)
-ran_for (Number n) count ns = Malformed
-ran_for Bad count ns = Malformed
+abbrev pub ran_for : Reading → Numbers → Option Outcome
+ran_for Nothing ns = ran_of ns.items (case_of ns)
+ran_for (Number n) ns = None
+ran_for Malformed ns = None
 
-abbrev pub ran_by : Line → List ℕ → Ran
-ran_by l ns = ran_for l.reading l.count ns
+abbrev pub ran_by : Line → Option Outcome
+ran_by l = ran_for l.reading l.numbers

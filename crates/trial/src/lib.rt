@@ -1,16 +1,15 @@
 // A case run: the image with its fill and its words, the request asked of it, a check of what it leaves, and the checksum. `run` takes any
-// line and any numbers; the parts below it ask for the bounds that `case_of` has tested.
+// line; the parts below it ask for the bounds that `case_of` has tested.
 #![tactic(auto)]
 
-ghost use Rattle.std.specs.Prelude.{◌≡◌, true, ◌≤◌, length};
+ghost use Rattle.std.specs.Prelude.{◌≡◌, ◌≤◌, Some, IsSome, OnSome, is_some, length};
 ghost use Rattle.rules.specs.Words.{carry};
-ghost use Rattle.case.specs.declared.Case.TheVariants.{Asked};
 ghost use Rattle.case.specs.Cases.{most_length, most_words, case_of};
 ghost use Rattle.trial.specs.Outcomes.{lies, words, all_lie, filled, outcome_of, ran_of, ran_by};
 
 use case::Case;
-use case::line::{Line, Reading};
-use outcome::{Outcome, Ran};
+use case::line::{Line, Numbers, Reading};
+use outcome::Outcome;
 use rules::Request;
 use word::Power;
 
@@ -18,32 +17,24 @@ use word::Power;
 fn word_lies(n: usize, at: u64) -> bool
     ensures { result ≡ lies n at }
 {
-    if at % 8 != 0 {
-        return false;
-    }
-    if n < 8 {
-        return false;
-    }
-    at <= (n - 8) as u64
+    at % 8 == 0 && n >= 8 && at <= (n - 8) as u64
 }
 
-// The words of a case put into its image, each with power for one store; false where one cannot lie there.
-fn put_words(img: &mut [u8], numbers: &[u64; 256], count: usize) -> bool
+// The words of a case put into its image, each with power for one store; none where one cannot lie there.
+fn put_words(img: &mut [u8], numbers: &Numbers, count: usize) -> Option<()>
     requires { count ≤ most_words }
-    ensures value { result ≡ all_lie (length img.old) numbers.now count }
-    ensures img_after { result ≡ true → img.new ≡ carry img.old (words numbers.now count) }
+    ensures value { is_some result ≡ all_lie (length img.old) numbers.now.items count }
+    ensures img_after { OnSome result (img.new ≡ carry img.old (words numbers.now.items count)) }
 {
-    let mut i: usize = 0;
-    while i < count {
-        let at = numbers[3 + 2 * i];
-        let w = numbers[4 + 2 * i];
+    for i in 0..count {
+        let at = numbers.items[3 + 2 * i];
+        let w = numbers.items[4 + 2 * i];
         if !word_lies(img.len(), at) {
-            return false;
+            return None;
         }
         word::store(img, Power::new(1), at as usize, w);
-        i += 1;
     }
-    true
+    Some(())
 }
 
 // The request asked of the image, and what it leaves.
@@ -69,45 +60,30 @@ fn filled(fill: u8) -> [u8; 65536]
 }
 
 // A case run in an image of its own.
-fn run_case(numbers: &[u64; 256], n: usize, fill: u8, k: usize, request: Request, fuse: u64) -> Ran
-    requires n_le_most_length { n ≤ most_length }
-    requires k_le_most_words { k ≤ most_words }
-    ensures { result ≡ ran_of numbers.now (Asked n fill k request fuse) }
+fn run_case(numbers: &Numbers, case: Case) -> Option<Outcome>
+    requires length_le_most { case.length ≤ most_length }
+    requires words_le_most { case.words ≤ most_words }
+    ensures { result ≡ ran_of numbers.now.items (Some case) }
 {
-    let mut space = filled(fill);
-    let img = &mut space[..n];
-    if !put_words(img, numbers, k) {
-        return Ran::Malformed;
-    }
-    Ran::Done(tried(img, request, fuse))
+    let mut space = filled(case.fill);
+    let img = &mut space[..case.length];
+    put_words(img, numbers, case.words)?;
+    Some(tried(img, case.request, case.fuse))
 }
 
-// The case of the first `count` numbers.
-fn run_numbers(numbers: &[u64; 256], count: usize) -> Ran
-    ensures { result ≡ ran_of numbers.now (case_of numbers.now count) }
+// The case of a line's numbers; none where they are malformed.
+fn run_numbers(numbers: &Numbers) -> Option<Outcome>
+    ensures { result ≡ ran_of numbers.now.items (case_of numbers.now) }
 {
-    let c = case::case_of(numbers, count);
-    let Case::Asked {
-        length,
-        fill,
-        words,
-        request,
-        fuse,
-    } = c
-    else {
-        return Ran::Malformed;
-    };
-    run_case(numbers, length, fill, words, request, fuse)
+    run_case(numbers, case::case_of(numbers)?)
 }
 
-// The case of a line that is read to its end.
-pub fn run(l: Line, numbers: &[u64; 256]) -> Ran
-    ensures { result ≡ ran_by l numbers.now }
+// What a line leads to that is read to its end; none where it is malformed.
+pub fn run(l: &Line) -> Option<Outcome>
+    ensures { result ≡ ran_by l.now }
 {
-    let r = l.reading;
-    match r {
-        Reading::Nothing => run_numbers(numbers, l.count),
-        Reading::Number(_) => Ran::Malformed,
-        Reading::Malformed => Ran::Malformed,
+    match l.reading {
+        Reading::Nothing => run_numbers(&l.numbers),
+        Reading::Number(_) | Reading::Malformed => None,
     }
 }

@@ -5,5 +5,5 @@ use Rattle.trial.proofs.run_case.Goals as goal
 
 pub returns : goal.returns
 returns c =
-    ran_done _ _ _ _ _ _ _ (filled_front _ _ _ _ c.filled-space.ensures (search rules)) true c.if-not-put_words.ensures.value
-    refl _ (c.if-not-put_words.ensures.img_after refl) _ c.tried.ensures
+    ran_done _ _ _ (filled_front _ _ _ _ c.filled-space.ensures (search rules)) true c.in_ok-put_words.ensures.value
+    refl _ c.in_ok-put_words.ensures.img_after _ c.tried.ensures

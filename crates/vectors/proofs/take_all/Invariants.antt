@@ -1,10 +1,7 @@
--- `take_all`: the bytes that are left lead from here to where all of them lead. Assumes nothing.
-use Rattle.std.proofs.Common.{length, ◌-◌}
-use Rattle.vectors.specs.Steps.{place, ReadingOn}
+-- `take_all`: the bytes so far lead to where the line is.
+use Rattle.std.proofs.Common.{◌≡◌, take}
+use Rattle.vectors.specs.Steps.{read_on}
 use Rattle.vectors.proofs.take_all.Given as goal
 
-abbrev pub invariant-loop-i : goal.invariant-loop-i
-invariant-loop-i g l = ReadingOn (place l.fn.l l.fn.numbers) l.bytes (place l.here l.numbers) l.i
-
-abbrev pub decreases-loop-i : goal.decreases-loop-i
-decreases-loop-i g l = length l.bytes - l.i
+abbrev pub invariant-loop-b : goal.invariant-loop-b
+invariant-loop-b g l = l.l ≡ read_on l.fn.l (take l.b-index l.bytes)

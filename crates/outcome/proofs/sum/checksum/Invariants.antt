@@ -1,10 +1,7 @@
--- `checksum`: the sum so far over the bytes that are left is the sum of all.
-use Rattle.std.proofs.Common.{length, ◌-◌}
-use Rattle.outcome.specs.Sums.{Summing}
+-- `checksum`: the sum of the bytes so far.
+use Rattle.std.proofs.Common.{◌≡◌, ◌<◌, take}
+use Rattle.outcome.specs.Sums.{modulus, sum_of}
 use Rattle.outcome.proofs.sum.checksum.Given as goal
 
-abbrev pub invariant-loop-i : goal.invariant-loop-i
-invariant-loop-i l = Summing l.img l.s l.i
-
-abbrev pub decreases-loop-i : goal.decreases-loop-i
-decreases-loop-i l = length l.img - l.i
+abbrev pub invariant-loop-b : goal.invariant-loop-b
+invariant-loop-b l = record { small : l.s < modulus; same : l.s ≡ sum_of (take l.b-index l.img) }

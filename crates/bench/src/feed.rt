@@ -1,84 +1,83 @@
 // What the program does with the bytes of its input: they are gathered into lines, and each line is obeyed when it ends. Of a line
 // as many bytes are kept as tell what it means, however long it is. Where a write failed nothing more is done.
-// Takes any image and any bytes. Asks that no more bytes are held than the buffer has, as holds from the start on.
-ghost use Rattle.std.specs.Prelude.{◌≡◌, [], ◌∷◌, ◌≤◌, length, take};
+// Takes any image and any bytes.
+ghost use Rattle.std.specs.Prelude.{◌≡◌, [], ◌∷◌, ◌≤◌, take};
 ghost use Rattle.line.specs.Lines.{line_of, fuse_after};
 ghost use Rattle.line.specs.Gathering.{kept};
 ghost use Rattle.obey.specs.Obeying.{image_after};
-ghost use Rattle.bench.specs.Steps.{Dialogue, line_ended};
-ghost use Rattle.bench.specs.Feeding.{Stands, Follows, Fed};
 
-use obey::Obeyed;
+use streams::Told;
 use text::NEWLINE;
 
-// What is held from byte to byte: how many bytes of the line are in the buffer, the fuse of the next request, and whether all that was
-// to be said so far was written.
-#[derive(Clone, Copy)]
+// What is held from byte to byte: of the line so far the bytes that are kept, which are the buffer's first `count`, and the fuse of the
+// next request.
+#[derive(Drop)]
 pub struct Held {
-    pub count: usize,
-    pub fuse: u64,
-    pub said: bool,
+    buf: [u8; 201],
+    count: usize,
+    fuse: u64,
+    ghost room: { count ≤ kept },
 }
 
-// The line that is held.
-fn held_line(rt: &(impl Print + Eprint), img: &mut [u8], buf: &[u8], h: Held) -> Obeyed
-    requires { h.count ≤ length buf.now }
-    ensures img_after { img.new ≡ image_after img.old (line_of (take h.count buf.now)) h.fuse }
-    ensures fuse_value { result.fuse ≡ fuse_after h.fuse (line_of (take h.count buf.now)) }
-{
-    let count = h.count;
-    obey::line_end(rt, img, &buf[..count], h.fuse)
-}
+impl Held {
+    ghost use Rattle.bench.specs.Steps.{Dialogue, line_ended};
+    ghost use Rattle.bench.specs.Feeding.{Stands, Follows, Fed};
 
-// A byte: a newline ends the line, and any other is held.
-fn byte(rt: &(impl Print + Eprint), img: &mut [u8], buf: &mut [u8; 201], h: Held, b: u8) -> Held
-    requires { h.count ≤ kept }
-    ensures { Follows img.old buf.old h (b ∷ []) img.new buf.new result }
-{
-    if b == NEWLINE {
-        let o = held_line(rt, img, buf, h);
-        return Held {
+    // At the start no byte is held.
+    pub fn new(fuse: u64) -> Self
+        ensures empty { result.count ≡ 0 }
+        ensures fuse_value { result.fuse ≡ fuse }
+    {
+        Held {
+            buf: [0; 201],
             count: 0,
-            fuse: o.fuse,
-            said: o.said,
-        };
-    }
-    Held {
-        count: line::gather(buf, h.count, b),
-        fuse: h.fuse,
-        said: h.said,
-    }
-}
-
-// The bytes of a chunk, one after the other, up to where a write failed.
-pub fn bytes(
-    rt: &(impl Print + Eprint),
-    img: &mut [u8],
-    buf: &mut [u8; 201],
-    h: Held,
-    chunk: &[u8],
-) -> Held
-    requires { h.count ≤ kept }
-    ensures { Fed img.old buf.old h chunk.now img.new buf.new result }
-{
-    let mut held = h;
-    let mut i: usize = 0;
-    while i < chunk.len() {
-        if !held.said {
-            return held;
+            fuse,
         }
-        held = byte(rt, img, buf, held, chunk[i]);
-        i += 1;
     }
-    held
-}
 
-// The end of the input: a last line that no newline ended counts if it has a byte.
-pub fn rest(rt: &(impl Print + Eprint), img: &mut [u8], buf: &[u8; 201], h: Held)
-    requires { h.count ≤ kept }
-    ensures { (s : Dialogue) → Stands img.old buf.now h s → img.new ≡ (line_ended s).image }
-{
-    if h.count > 0 {
-        held_line(rt, img, buf, h);
+    // The line that is held ends.
+    fn line_end(&mut self, rt: &(impl Print + Eprint), img: &mut [u8]) -> Result<(), Told>
+        ensures img_after { img.new ≡ image_after img.old (line_of (take self.old.count self.old.buf)) self.old.fuse }
+        ensures fuse_value { self.new.fuse ≡ fuse_after self.old.fuse (line_of (take self.old.count self.old.buf)) }
+    {
+        obey::line_end(rt, img, &self.buf[..self.count], &mut self.fuse)
+    }
+
+    // A byte: a newline ends the line, and any other is held.
+    fn byte(&mut self, rt: &(impl Print + Eprint), img: &mut [u8], b: u8) -> Result<(), Told>
+        ensures { Follows img.old self.old (b ∷ []) img.new self.new }
+    {
+        if b == NEWLINE {
+            let said = self.line_end(rt, img);
+            self.count = 0;
+            return said;
+        }
+        self.count = line::gather(&mut self.buf, self.count, b);
+        Ok(())
+    }
+
+    // The bytes of a chunk, one after the other, up to where a write failed.
+    pub fn bytes(
+        &mut self,
+        rt: &(impl Print + Eprint),
+        img: &mut [u8],
+        chunk: &[u8],
+    ) -> Result<(), Told>
+        ensures { Fed img.old self.old chunk.now img.new self.new result }
+    {
+        for &b in chunk {
+            self.byte(rt, img, b)?;
+        }
+        Ok(())
+    }
+
+    // The end of the input: a last line that no newline ended counts if it has a byte.
+    pub fn rest(&mut self, rt: &(impl Print + Eprint), img: &mut [u8]) -> Result<(), Told>
+        ensures { (s : Dialogue) → Stands img.old self.old s → img.new ≡ (line_ended s).image }
+    {
+        if self.count == 0 {
+            return Ok(());
+        }
+        self.line_end(rt, img)
     }
 }

@@ -4,56 +4,34 @@
 // fails the program ends, and `streams` tells why in one line on standard error; a read that fails is not the end of the input.
 #![tactic(auto)]
 
-ghost use Rattle.std.specs.Prelude.{◌≡◌, ◌≤◌, length, take};
 ghost use Rattle.bench.specs.Inputs.{Ended};
 
 use feed::Held;
-use std::io::Read;
-use streams::Got;
+use streams::Told;
 
 mod feed;
 
-// Reads once.
-fn read_some<I: Read>(rt: &impl Eprint, input: &mut I, chunk: &mut [u8]) -> Got
-    ensures within { result.count ≤ length chunk.new }
-    ensures part { result.count ≡ length (take result.count chunk.new) }
-{
-    streams::read_some(rt, input, "standard input", chunk)
-}
-
 // The whole input, a chunk at a time. A proved loop has to end, and nothing says that the input does, so that it counts its turns, up
 // to a number that no run uses up.
-fn run(rt: &(impl Input + Print + Eprint), img: &mut [u8])
+fn run(rt: &(impl Input + Print + Eprint), img: &mut [u8]) -> Result<(), Told>
     ensures { Ended img.old img.new }
 {
     let mut input = rt.reader();
-    let mut buf = [0u8; 201];
     let mut chunk = [0u8; 4096];
-    let mut held = Held {
-        count: 0,
-        fuse: u64::MAX,
-        said: true,
-    };
+    let mut held = Held::new(u64::MAX);
     for _ in 0..u64::MAX {
-        let got = read_some(rt, &mut input, &mut chunk);
-        if got.failed {
-            return;
-        }
-        let n = got.count;
+        let n = streams::read_some(rt, &mut input, "standard input", &mut chunk)?;
         if n == 0 {
             break;
         }
-        held = feed::bytes(rt, img, &mut buf, held, &chunk[..n]);
-        if !held.said {
-            return;
-        }
+        held.bytes(rt, img, &chunk[..n])?;
     }
-    feed::rest(rt, img, &buf, held);
+    held.rest(rt, img)
 }
 
-// The pool is created silently, with a fuse that lasts.
+// The pool is created silently, with a fuse that lasts. A failure that ended the run is told already.
 fn main(rt: HostRuntime) {
     let mut img = [0u8; 32768];
     pool::create(&mut img, u64::MAX);
-    run(&rt, &mut img);
+    let _ = run(&rt, &mut img);
 }

@@ -2,7 +2,7 @@
 // line; the parts below it ask for the bounds that `case_of` has tested.
 #![tactic(auto)]
 
-ghost use Rattle.std.specs.Prelude.{◌≡◌, ◌≤◌, Some, IsSome, OnSome, is_some, length};
+ghost use Rattle.std.specs.Prelude.{◌≡◌, ◌≤◌, Some, OnSome, is_some, length};
 ghost use Rattle.rules.specs.Words.{carry};
 ghost use Rattle.case.specs.Cases.{most_length, most_words, case_of};
 ghost use Rattle.trial.specs.Outcomes.{lies, words, all_lie, filled, outcome_of, ran_of, ran_by};

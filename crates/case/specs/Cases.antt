@@ -1,6 +1,6 @@
 -- What the numbers of a line ask: LENGTH FILL K OFFSET1 WORD1 .. OFFSETK WORDK REQUEST A B C FUSE. Assumes nothing.
-use Rattle.std.specs.Prelude.{ℕ, ◌+◌, ◌*◌, ◌≤◌, ◌≡◌, refl, Bool, true, false, cond, List, Option, None, Some, eqb, ltb, get_or}
-use Rattle.std.proofs.Common.{ap, arith, ltb-false}
+use Rattle.std.specs.Prelude.{ℕ, ◌+◌, ◌*◌, ◌≤◌, ◌≡◌, cond, List, Option, None, Some, eqb, ltb, get_or}
+use Rattle.std.proofs.Common.{arith}
 use Rattle.rules.specs.declared.Request.{Request}
 use Rattle.rules.specs.declared.Request.TheVariants.{Create, Reserve, ReserveUncleared, Grow, Onactive, Onfree, Withdraw, Activate, Free, Check, Recover}
 use Rattle.case.specs.declared.Case.{Case}
@@ -66,21 +66,4 @@ pub asked-within :
     (ns : Numbers) (c : Case)
     → case_of ns ≡ Some c
     → (c.length ≤ most_length) × (c.words ≤ most_words)
-asked-within ns c = go (ltb most_length (at ns.items 0)) refl (ltb most_fill (at ns.items 1)) (ltb most_words (at ns.items 2)) refl (eqb ns.count (request_at ns.items + 5)) (ltb most_request (at ns.items (request_at ns.items)))
-  where
-    go :
-        (t : Bool) → ltb most_length (at ns.items 0) ≡ t
-        → (f w : Bool) → ltb most_words (at ns.items 2) ≡ w
-        → (k d : Bool)
-        → cond t None (cond f None (cond w None (cond k (cond d None (Some (asked ns.items (request_at ns.items)))) None))) ≡ Some c
-        → (c.length ≤ most_length) × (c.words ≤ most_words)
-    go true p f w r k d e = absurd (let z : ◌≡◌ {A = ℕ} 0 1 = cc in omega arith)
-    go false p true w r k d e = absurd (let z : ◌≡◌ {A = ℕ} 0 1 = cc in omega arith)
-    go false p false true r k d e = absurd (let z : ◌≡◌ {A = ℕ} 0 1 = cc in omega arith)
-    go false p false false r false d e = absurd (let z : ◌≡◌ {A = ℕ} 0 1 = cc in omega arith)
-    go false p false false r true true e = absurd (let z : ◌≡◌ {A = ℕ} 0 1 = cc in omega arith)
-    go false p false false r true false e =
-        let h : asked ns.items (request_at ns.items) ≡ c = cc in
-        let x : at ns.items 0 ≡ c.length = ap (λ (k : Case). k.length) h in
-        let y : at ns.items 2 ≡ c.words = ap (λ (k : Case). k.words) h in
-        (omega (arith, ltb-false most_length (at ns.items 0) p), omega (arith, ltb-false most_words (at ns.items 2) r))
+asked-within ns c e = (grind arith, grind arith)

@@ -84,12 +84,12 @@ impl Line {
         ensures { self.new ≡ counted self.old n }
     {
         let at = self.numbers.count;
-        if at >= 256 {
+        if at >= self.numbers.items.len() {
             self.reading = Reading::Malformed;
             return;
         }
         self.numbers.items[at] = n;
-        self.numbers.count = at + 1;
+        self.numbers.count += 1;
         self.reading = Reading::Nothing;
     }
 

@@ -3,11 +3,9 @@
 use Prim.Native.Nat.{ℕ, zero, suc, ◌+◌, ◌*◌, ◌%◌, ◌≤◌, ◌<◌}
 use Rattle.std.proofs.Math.Path.{◌≡◌, refl, sym, ap}
 use Rattle.std.proofs.Common.{◌∙◌, arith, add-one}
-use Rattle.std.specs.Prelude.{Bool, ◌&&◌, None, Some, List, [], ◌∷◌, leb, length, take}
+use Rattle.std.specs.Prelude.{Bool, None, Some, List, [], ◌∷◌, length, take}
 use Rattle.std.proofs.Math.Bool.{true, false}
-use Rattle.std.proofs.Math.Dec.{eqb}
-use Rattle.std.proofs.lemmas.List.{length-replicate}
-use borrow.Author.Tests.{eqb-true, eqb-false, leb-true}
+use Rattle.std.proofs.lemmas.List.{length-replicate, take-replicate}
 use Rattle.rules.specs.Words.{Image, store, word_bytes, carry}
 use Rattle.word.specs.Memory.{carry-append}
 use Rattle.case.specs.Cases.{at}
@@ -17,11 +15,7 @@ use Rattle.trial.specs.Outcomes.{lies, words, all_lie, outcome_of, filled, ran_o
 
 -- a word that lies in the image is aligned and inside
 pub lies_in : (n o : ℕ) → lies n o ≡ true → (o % word_bytes ≡ 0) × (o + word_bytes ≤ n)
-lies_in n o e = go (eqb (o % word_bytes) 0) refl e
-  where
-    go : (t : Bool) → eqb (o % word_bytes) 0 ≡ t → (t && leb (o + word_bytes) n) ≡ true → (o % word_bytes ≡ 0) × (o + word_bytes ≤ n)
-    go true p f = (eqb-true (o % word_bytes) 0 p, leb-true (o + word_bytes) n f)
-    go false p f = absurd (let z : ◌≡◌ {A = ℕ} 0 1 = cc in omega arith)
+lies_in n o e = (grind arith, grind arith)
 
 -- the loop: the first i words lie in the image, and are in it
 pub record Putting (img : Image) (ns : List ℕ) (x : Image) (i : ℕ) : Type 0 where
@@ -57,33 +51,19 @@ module _ (img : Image) (ns : List ℕ) where
   none_lie : (i k : ℕ) → i < k → lies (length img) (at ns (3 + 2 * i)) ≡ false → all_lie (length img) ns k ≡ false
   unfolding all_lie
   none_lie i zero l e = absurd (omega arith)
-  none_lie i (suc k) l e = go (eqb i k) refl (all_lie (length img) ns k) refl (none_lie i k)
-    where
-      go :
-          (t : Bool) → eqb i k ≡ t
-          → (b : Bool) → all_lie (length img) ns k ≡ b
-          → (i < k → lies (length img) (at ns (3 + 2 * i)) ≡ false → all_lie (length img) ns k ≡ false)
-          → (b && lies (length img) (at ns (3 + 2 * k))) ≡ false
-      go t p false q r = refl
-      go true p true q r = rw (eqb-true i k p) at e
-      go false p true q r = let f = r (omega (arith, eqb-false i k p)) e in absurd (let z : ◌≡◌ {A = ℕ} 0 1 = cc in omega arith)
+  none_lie i (suc k) l e = grind (arith, none_lie i k)
 
   pub never_lie : (x : Image) (i k : ℕ) → Putting img ns x i → i < k → lies (length x) (at ns (3 + 2 * i)) ≡ false → all_lie (length img) ns k ≡ false
   never_lie x i k f l e = none_lie i k l (rw f.long at e)
 
 -- the first bytes of a fill
-take-filled : (b n m : ℕ) → n ≤ m → take n (filled b m) ≡ filled b n
+pub filled_front : (x : Image) (b n m : ℕ) → x ≡ filled b m → n ≤ m → take n x ≡ filled b n
 unfolding filled
-take-filled b zero m l = refl
-take-filled b (suc n) zero l = absurd (omega arith)
-take-filled b (suc n) (suc m) l = ap (λ (t : List ℕ). b ∷ t) (take-filled b n m (omega arith))
+filled_front x b n m e l = rw e (take-replicate n m b l)
 
 length-filled : (b n : ℕ) → length (filled b n) ≡ n
 unfolding filled
 length-filled b n = length-replicate n b
-
-pub filled_front : (x : Image) (b n m : ℕ) → x ≡ filled b m → n ≤ m → take n x ≡ filled b n
-filled_front x b n m e l = rw e (take-filled b n m l)
 
 pub filled_count : (x : Image) (b n m : ℕ) → x ≡ filled b m → n ≤ m → n ≡ length (take n x)
 filled_count x b n m e l = rw (filled_front x b n m e l) (sym (length-filled b n))
@@ -91,9 +71,7 @@ filled_count x b n m e l = rw (filled_front x b n m e l) (sym (length-filled b n
 -- a filled image with the words put in, or not
 module _ (ns : List ℕ) (c : Case) (img : Image) (z : img ≡ filled c.fill c.length) (t : Bool) (e : t ≡ all_lie (length img) ns c.words) where
   fits : all_lie c.length ns c.words ≡ t
-  fits =
-      ap (λ (l : ℕ). all_lie l ns c.words) (sym (length-filled c.fill c.length))
-      ∙ ap (λ (x : Image). all_lie (length x) ns c.words) (sym z) ∙ sym e
+  fits = sym (rw (z, length-filled c.fill c.length) at e)
 
   pub ran_not : t ≡ false → None ≡ ran_of ns (Some c)
   ran_not f = rw (fits ∙ f)

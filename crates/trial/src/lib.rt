@@ -2,7 +2,7 @@
 // line; the parts below it ask for the bounds that `case_of` has tested.
 #![tactic(auto)]
 
-ghost use Rattle.std.specs.Prelude.{◌≡◌, ◌≤◌, Some, IsSome, OnSome, is_some, length};
+ghost use Rattle.std.specs.Prelude.{◌≡◌, ◌≤◌, Some, OnSome, is_some, length};
 ghost use Rattle.rules.specs.Words.{carry};
 ghost use Rattle.case.specs.Cases.{most_length, most_words, case_of};
 ghost use Rattle.trial.specs.Outcomes.{lies, words, all_lie, filled, outcome_of, ran_of, ran_by};
@@ -38,6 +38,7 @@ fn put_words(img: &mut [u8], numbers: &Numbers, count: usize) -> Option<()>
 }
 
 // The request asked of the image, and what it leaves.
+#[tactic(auto, unfolding(crate::specs::Outcomes::outcome_of))]
 fn tried(img: &mut [u8], request: Request, fuse: u64) -> Outcome
     ensures { result ≡ outcome_of img.old request fuse }
 {
@@ -53,6 +54,7 @@ fn tried(img: &mut [u8], request: Request, fuse: u64) -> Outcome
 }
 
 // Room for every image, each byte the fill.
+#[tactic(auto, unfolding(crate::specs::Outcomes::filled))]
 fn filled(fill: u8) -> [u8; 65536]
     ensures { result ≡ filled fill most_length }
 {

@@ -14,6 +14,9 @@ ghost use Rattle.page.specs.Forms.{head_of};
 ghost use Rattle.walk.specs.Forms.{found_of, list_valid};
 ghost use Rattle.walk.specs.Beside.{free_bytes};
 
+mod clumps;
+
+use crate::clumps::Clumps;
 use page::clump::Clump;
 use page::{CLUMPS_AT, STATIC_AT, STATIC_END, entry};
 
@@ -73,29 +76,19 @@ pub fn word_lies(a: u64, b: u64, t: u64) -> bool
     (a..b).contains(&t) && 8 <= b - t
 }
 
-// Whether the word at t lies in the body of the clump, and the clump is live.
+// Whether the word at t lies in the body of the clump, and the clump is live. No sum is made: it is asked of the word's offset in the clump.
 fn holds(c: Clump, t: u64) -> bool
-    requires end_fits { c.at + c.nbytes < word_values }
-    requires body_fits { c.at + header_bytes < word_values }
     ensures { result ≡ holds_word t (head_of c) }
 {
     let at = c.at as u64;
-    c.state != Clump::FREE && word_lies(at + Clump::HEADER, at + c.nbytes, t)
+    c.state != Clump::FREE && at <= t && word_lies(Clump::HEADER, c.nbytes, t - at)
 }
 
 fn in_body(img: &[u8], t: u64) -> bool
     requires { Tiled img.now }
     ensures { result ≡ any (holds_word t) (clumps_of img.now) }
 {
-    let mut h: usize = CLUMPS_AT;
-    while h < img.len() {
-        let c = Clump::read(img, h);
-        if holds(c, t) {
-            return true;
-        }
-        h += c.nbytes as usize;
-    }
-    false
+    Clumps::of(img).any(|c| holds(c, t))
 }
 
 // Whether a target is valid now.

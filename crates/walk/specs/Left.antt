@@ -1,16 +1,20 @@
 -- What is left of the walk at an offset, as a list: at its start the walk itself; where it tiles, the clump that stands there and what is
 -- left behind it; and nothing at the end. By induction on the steps of the walk: any two numbers of steps that last give the same clumps.
 -- Assumes nothing.
-use Rattle.std.specs.Prelude.{ℕ, zero, suc, ◌+◌, ◌%◌, ◌<◌, ◌≤◌, ◌≡◌, refl, Bool, true, false, List, [], ◌∷◌, ◌||◌, length, ltb}
+use Rattle.std.specs.Prelude.{ℕ, zero, suc, ◌+◌, ◌%◌, ◌<◌, ◌≤◌, ◌≡◌, refl, Bool, true, false, List, [], ◌∷◌, ◌||◌, ◌++◌, length, ltb}
 use Rattle.std.specs.List.{list_any}
-use Rattle.std.proofs.Common.{sym, ap, ◌∙◌, subst, arith}
+use Rattle.std.proofs.Common.{sym, ap, ◌∙◌, subst, append_assoc, arith, eq-eqb, ne_eqb}
+use Rattle.std.proofs.Math.Option.{some, none}
 use borrow.Author.Tests.{lt-ltb, le-ltb, ltb-true, ltb-false}
 use Rattle.rules.specs.Lists.{any}
 use Rattle.rules.specs.Words.{Image, Mem, mem}
 use Rattle.rules.specs.Pages.{clumps_at, unit}
-use Rattle.rules.specs.Clumps.{Head, head, least_clump, Tiles, heads_from, walk}
+use Rattle.rules.specs.Clumps.{Head, head, body_of, least_clump, Tiles, heads_from, walk, before_of, offset_of}
 use Rattle.rules.specs.Reading.{clumps_of, Tiled}
-use Rattle.laws.specs.Tilings.{tiles_le}
+use Rattle.rules.specs.Requests.{finder, below_of}
+use Rattle.laws.specs.Searches.{seek_nil, seek_hit, seek_pass}
+use Rattle.laws.specs.Tilings.{tiles_le, tiles_split}
+use Rattle.laws.specs.Neighbours.{last, before_is}
 
 -- the clumps of an image from a on
 abbrev pub clumps_left : Image → ℕ → List Head
@@ -100,3 +104,58 @@ pub any_is : (p : Head → Bool) (hs : List Head) → list_any p hs ≡ any p hs
 unfolding any
 any_is p [] = refl
 any_is p (h ∷ hs) = ap (λ (b : Bool). p h || b) (any_is p hs)
+
+-- A search that has come to the clumps that are left: none that it passed is the one, and the last of these stands at b, which is 0 where
+-- there is none.
+pub record Sought (hs : List Head) (body b : ℕ) (left : List Head) : Type 0 where
+  pub lower : List Head
+  pub whole : hs ≡ lower ++ left
+  pub same : finder left body ≡ finder hs body
+  pub last_is : b ≡ offset_of 0 (last lower)
+
+pub sought_start : (hs : List Head) (body : ℕ) → Sought hs body 0 hs
+unfolding last
+sought_start hs body = record { lower = []; whole = refl; same = refl; last_is = refl }
+
+last_more : (p : List Head) (k : Head) → last (p ++ (k ∷ [])) ≡ some k
+unfolding last
+last_more [] k = refl
+last_more (j ∷ []) k = refl
+last_more (j ∷ i ∷ p) k = last_more (i ∷ p) k
+
+module _ {hs : List Head} {body b : ℕ} {left : List Head} (s : Sought hs body b left) where
+  pub sought_end : left ≡ [] → none ≡ finder hs body
+  sought_end e = sym (seek_nil _) ∙ ap (λ (k : List Head). finder k body) (sym e) ∙ s.same
+
+  -- the clump that stands there
+  module _ (h : Head) (q : List Head) (e : left ≡ h ∷ q) where
+    whole_is : hs ≡ s.lower ++ (h ∷ q)
+    whole_is = s.whole ∙ ap (λ (k : List Head). s.lower ++ k) e
+
+    pub sought_hit : body_of h ≡ body → some h ≡ finder hs body
+    sought_hit d = sym (seek_hit _ h q (eq-eqb _ _ d)) ∙ ap (λ (k : List Head). finder k body) (sym e) ∙ s.same
+
+    pub sought_pass : (body_of h ≡ body → ⊥) → Sought hs body h.at q
+    sought_pass d = record {
+      lower = s.lower ++ (h ∷ []);
+      whole = whole_is ∙ sym (append_assoc s.lower (h ∷ []) q);
+      same = sym (seek_pass _ h q (ne_eqb _ _ d)) ∙ ap (λ (k : List Head). finder k body) (sym e) ∙ s.same;
+      last_is = ap (offset_of 0) (sym (last_more s.lower h));
+    }
+
+    module _ (n : ℕ) (t : Tiles clumps_at hs n) where
+      abbrev tiled : Tiles clumps_at (s.lower ++ (h ∷ q)) n
+      tiled = subst (λ (k : List Head). Tiles clumps_at k n) whole_is t
+
+      -- it lies in the image, and the last one passed is the one below it
+      pub sought_room : h.at + least_clump ≤ n
+      sought_room =
+          let r = tiles_split clumps_at n s.lower (h ∷ q) tiled in
+          let i = r.2.0.here in
+          let l = r.2.0.least in
+          let u = tiles_le (r.0 + h.nbytes) n q r.2.1 in
+          omega arith
+
+      pub sought_below : b ≡ below_of hs h
+      sought_below =
+          s.last_is ∙ ap (offset_of 0) (sym (ap (λ (k : List Head). before_of k h) whole_is ∙ before_is clumps_at n s.lower h q tiled))

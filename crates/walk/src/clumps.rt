@@ -2,8 +2,7 @@
 // there on tile, as they do in every image that is judged sound.
 ghost use Rattle.std.specs.Prelude.{◌≡◌};
 ghost use Rattle.std.specs.Iterator.{YieldsFirstBy, item_count};
-ghost use Rattle.rules.specs.Pages.{clumps_at};
-ghost use Rattle.rules.specs.Reading.{Tiled};
+ghost use Rattle.rules.specs.Reading.{clumps_of, Tiled};
 ghost use Rattle.page.specs.Forms.{head_of};
 ghost use Rattle.walk.specs.Left.{clumps_left, Tiling};
 
@@ -20,8 +19,9 @@ pub(crate) struct Clumps<'a> {
 impl<'a> Clumps<'a> {
     // All of them.
     pub(crate) fn of(img: &'a [u8]) -> Clumps<'a>
-        ensures img { result.img.now ≡ img.now }
-        ensures at { result.at ≡ clumps_at }
+        requires { Tiled img.now }
+        ensures tile { Tiling result.img.now result.at }
+        ensures all { clumps_left result.img.now result.at ≡ clumps_of img.now }
     {
         Clumps { img, at: CLUMPS_AT }
     }

@@ -1,5 +1,5 @@
 // Searches over the clumps of an image, and the bytes of one that is FREE. Each search asks that the clumps tile, as they do in every image
-// that is judged sound: it may be called once `judge` has found no fault.
+// that is judged sound: it may be called once `judge` has found no fault. `clumps` has the clumps of an image one after the other.
 #![tactic(auto)]
 
 ghost use Rattle.std.specs.Prelude.{◌≡◌, ◌||◌, ◌+◌, ◌%◌, ◌≤◌, ◌<◌, length, eqb};
@@ -32,15 +32,12 @@ pub fn find(img: &[u8], body: u64) -> Option<Found>
     requires { Tiled img.now }
     ensures { result ≡ found_of (finding (clumps_of img.now) body) }
 {
-    let mut below: usize = 0;
-    let mut h: usize = CLUMPS_AT;
-    while h < img.len() {
-        if h as u64 + Clump::HEADER == body {
-            return Some(Found { at: h, below });
+    let mut below = 0;
+    for c in Clumps::of(img) {
+        if c.at as u64 + Clump::HEADER == body {
+            return Some(Found { at: c.at, below });
         }
-        let c = Clump::read(img, h);
-        below = h;
-        h += c.nbytes as usize;
+        below = c.at;
     }
     None
 }

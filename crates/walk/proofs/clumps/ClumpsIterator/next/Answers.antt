@@ -1,8 +1,7 @@
 -- `next`: one step of what is left; at the end nothing is.
-use Rattle.std.proofs.Common.{arith, refl, ap, sym, ◌∙◌, length, List, ◌∷◌}
-use Rattle.rules.specs.Words.{mem}
+use Rattle.std.proofs.Common.{arith, ap, length}
 use Rattle.rules.specs.Clumps.{Head}
-use Rattle.walk.specs.Left.{clumps_left, left_end, left_step}
+use Rattle.walk.specs.Left.{left_end, left_step}
 use Rattle.walk.proofs.clumps.ClumpsIterator.next.Goals as goal
 
 pub returns-then-self-clause-steps : goal.returns-then-self-clause-steps

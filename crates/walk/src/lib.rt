@@ -4,7 +4,7 @@
 
 ghost use Rattle.std.specs.Prelude.{◌≡◌, ◌||◌, ◌+◌, ◌%◌, ◌≤◌, ◌<◌, length, eqb};
 ghost use Rattle.rules.specs.Lists.{seek, any};
-ghost use Rattle.rules.specs.Words.{word_bytes, word_values, mem};
+ghost use Rattle.rules.specs.Words.{word_bytes, mem};
 ghost use Rattle.rules.specs.Clumps.{header_bytes, target_of, offset_of};
 ghost use Rattle.rules.specs.Sound.{lies, holds_word, is_valid};
 ghost use Rattle.rules.specs.Stores.{need_of, fits};

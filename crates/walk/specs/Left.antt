@@ -1,6 +1,6 @@
 -- What is left of the walk at an offset, as a list: at its start the walk itself; where it tiles, the clump that stands there and what is
 -- left behind it; and nothing at the end. By induction on the steps of the walk: any two numbers of steps that last give the same clumps.
--- Assumes nothing.
+-- Then a search over what is left, a law for each thing that can happen at a clump. Assumes nothing.
 use Rattle.std.specs.Prelude.{ℕ, zero, suc, ◌+◌, ◌%◌, ◌<◌, ◌≤◌, ◌≡◌, refl, Bool, true, false, List, [], ◌∷◌, ◌||◌, ◌++◌, length, ltb}
 use Rattle.std.specs.List.{list_any}
 use Rattle.std.proofs.Common.{sym, ap, ◌∙◌, subst, append_assoc, arith, eq-eqb, ne_eqb}
@@ -14,7 +14,7 @@ use Rattle.rules.specs.Reading.{clumps_of, Tiled}
 use Rattle.rules.specs.Requests.{finder, below_of}
 use Rattle.laws.specs.Searches.{seek_nil, seek_hit, seek_pass}
 use Rattle.laws.specs.Tilings.{tiles_le, tiles_split}
-use Rattle.laws.specs.Neighbours.{last, before_is}
+use Rattle.laws.specs.Neighbours.{last, last_more, before_is}
 
 -- the clumps of an image from a on
 abbrev pub clumps_left : Image → ℕ → List Head
@@ -116,12 +116,6 @@ pub record Sought (hs : List Head) (body b : ℕ) (left : List Head) : Type 0 wh
 pub sought_start : (hs : List Head) (body : ℕ) → Sought hs body 0 hs
 unfolding last
 sought_start hs body = record { lower = []; whole = refl; same = refl; last_is = refl }
-
-last_more : (p : List Head) (k : Head) → last (p ++ (k ∷ [])) ≡ some k
-unfolding last
-last_more [] k = refl
-last_more (j ∷ []) k = refl
-last_more (j ∷ i ∷ p) k = last_more (i ∷ p) k
 
 module _ {hs : List Head} {body b : ℕ} {left : List Head} (s : Sought hs body b left) where
   pub sought_end : left ≡ [] → none ≡ finder hs body

@@ -41,12 +41,7 @@ pub fn bytes(out: &mut [u8], at: usize, text: &[u8]) -> usize
     requires { at + length text.now ≤ length out.old }
     ensures { Wrote out.old at text.now out.new result }
 {
-    let mut next = at;
-    let mut i: usize = 0;
-    while i < text.len() {
-        out[next] = text[i];
-        next += 1;
-        i += 1;
-    }
-    next
+    let end = at + text.len();
+    out[at..end].copy_from_slice(text);
+    end
 }

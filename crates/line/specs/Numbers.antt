@@ -1,6 +1,6 @@
 -- Laws of the number of a field: what a digit adds, what is no digit, and what lies past 64 bits. Assumes nothing.
-use Rattle.std.specs.Prelude.{ℕ, ◌+◌, ◌-◌, ◌*◌, ◌<◌, ◌≤◌, ◌≡◌, refl, Bool, true, false, ◌&&◌, Some, None, List, [], ◌∷◌, leb, length, get_or, drop}
-use Rattle.std.proofs.Common.{ap, sym, ◌∙◌, arith, le-ltb, lt-ltb, leb-true, add-one, drop-cons, drop_of_length-le}
+use Rattle.std.specs.Prelude.{ℕ, ◌+◌, ◌-◌, ◌*◌, ◌<◌, ◌≤◌, ◌≡◌, refl, Bool, true, false, Some, None, List, [], ◌∷◌, length, get_or, drop}
+use Rattle.std.proofs.Common.{ap, sym, ◌∙◌, arith, le-ltb, lt-ltb, add-one, drop-cons, drop_of_length-le}
 use Rattle.rules.specs.Words.{word_values}
 use Rattle.text.specs.Texts.{zero_digit}
 use Rattle.line.specs.Lines.{is_digit, value_from, in_word, number}
@@ -15,16 +15,6 @@ pub number_empty : (s : List ℕ) → length s ≡ 0 → number s ≡ None
 unfolding number
 number_empty [] e = refl
 number_empty (b ∷ bs) e = absurd (omega arith)
-
--- a digit is one of ten bytes
-pub digit_range : (b : ℕ) → is_digit b ≡ true → (zero_digit ≤ b) × (b ≤ 57)
-unfolding is_digit
-digit_range b e = go (leb zero_digit b) refl (leb b 57) refl e
-  where
-    go : (t : Bool) → leb zero_digit b ≡ t → (u : Bool) → leb b 57 ≡ u → (t && u) ≡ true → (zero_digit ≤ b) × (b ≤ 57)
-    go true p true q f = (leb-true zero_digit b p, leb-true b 57 q)
-    go true p false q f = absurd (let z : ◌≡◌ {A = ℕ} 0 1 = cc in omega arith)
-    go false p u q f = absurd (let z : ◌≡◌ {A = ℕ} 0 1 = cc in omega arith)
 
 -- at the end of the digits, at a byte that is no digit, and past a digit
 pub value_done : (n : ℕ) → n < word_values → in_word (value_from n []) ≡ Some n
@@ -50,6 +40,10 @@ past_word (b ∷ bs) n l = go (is_digit b) refl (past_word bs)
     go true e ih = rw (value_goes n b bs e) (ih (10 * n + (b - zero_digit)) (omega arith))
     go false e ih = rw (value_stops n b bs e)
 
+-- a digit that the value has no room for
+pub value_past : (n b : ℕ) (bs : List ℕ) → is_digit b ≡ true → word_values ≤ 10 * n + (b - zero_digit) → in_word (value_from n (b ∷ bs)) ≡ None
+value_past n b bs e l = rw (value_goes n b bs e) (past_word bs (10 * n + (b - zero_digit)) l)
+
 -- a field at its byte i: n is the value of the digits before it, and what is left decides
 module _ (s : List ℕ) (n i : ℕ) (inv : in_word (value_from n (drop i s)) ≡ number s) where
   -- at the end
@@ -68,6 +62,5 @@ module _ (s : List ℕ) (n i : ℕ) (inv : in_word (value_from n (drop i s)) ≡
       pub number_goes : in_word (value_from (10 * n + (get_or s i 0 - zero_digit)) (drop (i + 1) s)) ≡ number s
       number_goes = ap in_word (sym (value_goes n (get_or s i 0) (drop (i + 1) s) e)) ∙ at_byte
 
-      -- a digit that the value has no room for
       pub number_past : word_values ≤ 10 * n + (get_or s i 0 - zero_digit) → None ≡ number s
-      number_past l = sym (past_word (drop (i + 1) s) (10 * n + (get_or s i 0 - zero_digit)) l) ∙ number_goes
+      number_past l = sym (value_past n (get_or s i 0) (drop (i + 1) s) e l) ∙ at_byte

@@ -43,7 +43,6 @@ pub fn gather(buf: &mut [u8; 201], count: usize, b: u8) -> usize
 }
 
 // The number of a field, if it is one: digits alone, at least one, and a value that stays within 64 bits.
-#[tactic(auto, unfolding(crate::specs::Lines::number))]
 fn value(field: &[u8]) -> Option<u64>
     ensures { result ≡ number field.now }
 {
@@ -77,7 +76,6 @@ fn alone(name: &[u8]) -> Line
 }
 
 // The line of a name and one number.
-#[tactic(auto, using(crate::specs::Names::same_is), unfolding(crate::specs::Lines::named, crate::specs::Lines::commands, rules::specs::Pages::codes))]
 fn with_one(name: &[u8], n: u64) -> Line
     ensures { result ≡ named name.now (commands (n ∷ [])) }
 {

@@ -1,9 +1,12 @@
--- `value`: a law for each way out, and for each digit.
-use Rattle.std.proofs.Common.{◌≡◌, ◌+◌, ◌-◌, ◌*◌, get_or, arith, sym, ◌∙◌}
+-- `value`: an empty field, a byte that is no digit, a digit that the value has no room for, a digit that is added on, and the end.
+use Rattle.std.proofs.Common.{◌≡◌, ◌+◌, ◌-◌, ◌*◌, get_or, arith, sym, ◌∙◌, eqb-true}
 use Rattle.std.proofs.lemmas.Bool.{eqb-false}
 use Rattle.line.specs.Lines.{is_digit}
-use Rattle.line.specs.Numbers.{number_value, number_end, number_stops, number_goes, number_past}
+use Rattle.line.specs.Numbers.{number_empty, number_value, number_end, number_stops, number_goes, number_past}
 use Rattle.line.proofs.value.Goals as goal
+
+pub returns-then-is_empty : goal.returns-then-is_empty
+returns-then-is_empty c = sym (number_empty _ (eqb-true _ _ (sym c.if-is_empty.ensures)))
 
 pub loop-b-init : goal.loop-b-init
 loop-b-init c = (omega arith, number_value c.args.field.now (eqb-false _ _ (sym c.if-is_empty.ensures)))

@@ -2,8 +2,6 @@
 pub mod Lines
 pub mod Texts
 pub mod Examples
-pub mod Forms
-pub mod Scans
 pub mod Names
 pub mod Numbers
 pub mod Gathering

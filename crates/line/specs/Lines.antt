@@ -1,7 +1,6 @@
 -- What a line of the input means (01, "The program"). A line is the list of the bytes before its newline. Assumes nothing.
-use Rattle.std.specs.Prelude.{ℕ, ◌+◌, ◌-◌, ◌*◌, Bool, true, false, cond, ◌&&◌, List, [], ◌∷◌, eqb, leb, ltb, length}
+use Rattle.std.specs.Prelude.{ℕ, ◌+◌, ◌-◌, ◌*◌, Bool, true, false, cond, ◌&&◌, Option, Some, None, List, [], ◌∷◌, eqb, leb, ltb, length}
 use Prim.Native.String.{String}
-use Rattle.std.proofs.Math.Option.{Option, some, none}
 use Rattle.rules.specs.Words.{word_values}
 use Rattle.rules.specs.Pages.{codes}
 use Rattle.rules.specs.Cases.{longest}
@@ -28,27 +27,27 @@ is_digit b = leb zero_digit b && leb b 57
 
 -- the value of the digits of n and those that follow, the most significant first
 unfoldable pub value_from : ℕ → List ℕ → Option ℕ
-value_from n [] = some n
-value_from n (b ∷ bs) = elim (is_digit b) [ true ↦ value_from (10 * n + (b - zero_digit)) bs | false ↦ none ]
+value_from n [] = Some n
+value_from n (b ∷ bs) = elim (is_digit b) [ true ↦ value_from (10 * n + (b - zero_digit)) bs | false ↦ None ]
 
 -- "one with a number above 64 bits" is no line
 abbrev pub in_word : Option ℕ → Option ℕ
-in_word none = none
-in_word (some n) = cond (ltb n word_values) (some n) none
+in_word None = None
+in_word (Some n) = cond (ltb n word_values) (Some n) None
 
 -- the number of a field: one digit or more, judged by their value, so that zeros in front are fine
 unfoldable pub number : List ℕ → Option ℕ
-number [] = none
+number [] = None
 number (b ∷ bs) = in_word (value_from 0 (b ∷ bs))
 
 -- the numbers of the fields after the name, if each is one
 abbrev pub followed : Option ℕ → Option (List ℕ) → Option (List ℕ)
-followed none ns = none
-followed (some n) none = none
-followed (some n) (some ns) = some (n ∷ ns)
+followed None ns = None
+followed (Some n) None = None
+followed (Some n) (Some ns) = Some (n ∷ ns)
 
 unfoldable pub numbers : List (List ℕ) → Option (List ℕ)
-numbers [] = some []
+numbers [] = Some []
 numbers (f ∷ fs) = followed (number f) (numbers fs)
 
 -- two texts are the same, byte for byte
@@ -82,8 +81,8 @@ commands (o ∷ t ∷ v ∷ n ∷ ns) = []
 
 -- the line of a name and its numbers. "Any other line .. prints `?`."
 unfoldable pub command : List ℕ → Option (List ℕ) → Line
-command name none = Bad
-command name (some ns) = named name (commands ns)
+command name None = Bad
+command name (Some ns) = named name (commands ns)
 
 -- the line of its fields
 unfoldable pub meaning : List (List ℕ) → Line

@@ -3,9 +3,7 @@
 #![tactic(auto)]
 
 ghost use Rattle.std.specs.Prelude.{◌≡◌, [], ◌∷◌, ◌≤◌, length};
-ghost use Rattle.std.proofs.Math.Option.{some};
-ghost use Rattle.line.specs.Lines.{fields, is_digit, number, followed, numbers, same, named, commands, command, line_of, fuse_after};
-ghost use Rattle.line.specs.Forms.{space_at, number_in};
+ghost use Rattle.line.specs.Lines.{number, named, commands, line_of, fuse_after};
 ghost use Rattle.line.specs.Gathering.{kept, Gathered};
 
 use rules::Request;
@@ -23,15 +21,6 @@ pub enum Line {
     Walk,
     Bad,
 }
-
-// The number of a field, if it is one.
-#[derive(Clone, Copy)]
-enum Number {
-    Is(u64),
-    Not,
-}
-
-const LARGEST: u64 = 18446744073709551615;
 
 const LONGEST_LINE: usize = 200;
 
@@ -53,212 +42,153 @@ pub fn gather(buf: &mut [u8; 201], count: usize, b: u8) -> usize
     keep(buf, count, b)
 }
 
-// Whether a byte is one of `0` to `9`.
-fn is_digit(b: u8) -> bool
-    ensures { result ≡ is_digit b }
+// The number of a field, if it is one: digits alone, at least one, and a value that stays within 64 bits.
+fn value(field: &[u8]) -> Option<u64>
+    ensures { result ≡ number field.now }
 {
-    if b < b'0' {
-        return false;
-    }
-    b <= b'9'
-}
-
-// The number of a field. A digit is added on only where the sum stays within 64 bits.
-fn value(field: &[u8]) -> Number
-    ensures { result ≡ number_in (number field.now) }
-{
-    if field.len() == 0 {
-        return Number::Not;
+    if field.is_empty() {
+        return None;
     }
     let mut n: u64 = 0;
-    let mut i: usize = 0;
-    while i < field.len() {
-        let b = field[i];
-        if !is_digit(b) {
-            return Number::Not;
+    for b in field {
+        if !b.is_ascii_digit() {
+            return None;
         }
-        let d = (b - b'0') as u64;
-        if (LARGEST - d) / 10 < n {
-            return Number::Not;
-        }
-        n = 10 * n + d;
-        i += 1;
+        n = n.checked_mul(10)?.checked_add((*b - b'0') as u64)?;
     }
-    Number::Is(n)
-}
-
-// Whether two texts are the same, byte for byte.
-fn same(a: &[u8], b: &[u8]) -> bool
-    ensures { result ≡ same a.now b.now }
-{
-    if a.len() != b.len() {
-        return false;
-    }
-    let mut i: usize = 0;
-    while i < a.len() {
-        if a[i] != b[i] {
-            return false;
-        }
-        i += 1;
-    }
-    true
-}
-
-// Where the first space of a text stands, or the text's length.
-fn space(text: &[u8]) -> usize
-    ensures value { result ≡ space_at text.now }
-    ensures upper_bound { result ≤ length text.now }
-{
-    let mut i: usize = 0;
-    while i < text.len() {
-        if text[i] == SPACE {
-            return i;
-        }
-        i += 1;
-    }
-    i
+    Some(n)
 }
 
 // The line of a name alone.
+#[tactic(auto, using(crate::specs::Names::same_is), unfolding(crate::specs::Lines::named, crate::specs::Lines::commands, rules::specs::Pages::codes))]
 fn alone(name: &[u8]) -> Line
     ensures { result ≡ named name.now (commands []) }
 {
-    if same(name, b"recover") {
-        return Line::Ask {
+    if name == b"recover".as_slice() {
+        Line::Ask {
             q: Request::Recover,
-        };
+        }
+    } else if name == b"walk".as_slice() {
+        Line::Walk
+    } else {
+        Line::Bad
     }
-    if same(name, b"walk") {
-        return Line::Walk;
-    }
-    Line::Bad
 }
 
 // The line of a name and one number.
 fn with_one(name: &[u8], n: u64) -> Line
     ensures { result ≡ named name.now (commands (n ∷ [])) }
 {
-    if same(name, b"reserve") {
-        return Line::Ask {
+    if name == b"reserve".as_slice() {
+        Line::Ask {
             q: Request::Reserve { size: n },
-        };
-    }
-    if same(name, b"reserve_uncleared") {
-        return Line::Ask {
+        }
+    } else if name == b"reserve_uncleared".as_slice() {
+        Line::Ask {
             q: Request::ReserveUncleared { size: n },
-        };
-    }
-    if same(name, b"withdraw") {
-        return Line::Ask {
+        }
+    } else if name == b"withdraw".as_slice() {
+        Line::Ask {
             q: Request::Withdraw { offset: n },
-        };
-    }
-    if same(name, b"activate") {
-        return Line::Ask {
+        }
+    } else if name == b"activate".as_slice() {
+        Line::Ask {
             q: Request::Activate { offset: n },
-        };
-    }
-    if same(name, b"free") {
-        return Line::Ask {
+        }
+    } else if name == b"free".as_slice() {
+        Line::Ask {
             q: Request::Free { offset: n },
-        };
+        }
+    } else if name == b"fuse".as_slice() {
+        Line::Fuse { k: n }
+    } else {
+        Line::Bad
     }
-    if same(name, b"fuse") {
-        return Line::Fuse { k: n };
-    }
-    Line::Bad
 }
 
 // The line of a name, an offset and a size.
+#[tactic(auto, using(crate::specs::Names::same_is), unfolding(crate::specs::Lines::named, crate::specs::Lines::commands, rules::specs::Pages::codes))]
 fn with_two(name: &[u8], offset: u64, size: u64) -> Line
     ensures { result ≡ named name.now (commands (offset ∷ size ∷ [])) }
 {
-    if same(name, b"grow") {
-        return Line::Ask {
+    if name == b"grow".as_slice() {
+        Line::Ask {
             q: Request::Grow { offset, size },
-        };
+        }
+    } else {
+        Line::Bad
     }
-    Line::Bad
 }
 
 // The line of a name, an offset, a target and a value.
+#[tactic(auto, using(crate::specs::Names::same_is), unfolding(crate::specs::Lines::named, crate::specs::Lines::commands, rules::specs::Pages::codes))]
 fn with_three(name: &[u8], offset: u64, target: u64, value: u64) -> Line
     ensures { result ≡ named name.now (commands (offset ∷ target ∷ value ∷ [])) }
 {
-    if same(name, b"onactive") {
-        return Line::Ask {
+    if name == b"onactive".as_slice() {
+        Line::Ask {
             q: Request::Onactive {
                 offset,
                 target,
                 value,
             },
-        };
-    }
-    if same(name, b"onfree") {
-        return Line::Ask {
+        }
+    } else if name == b"onfree".as_slice() {
+        Line::Ask {
             q: Request::Onfree {
                 offset,
                 target,
                 value,
             },
-        };
+        }
+    } else {
+        Line::Bad
     }
-    Line::Bad
 }
 
-// The line of a name and an offset, with a size to follow, or a target and a value.
-fn with_offset(name: &[u8], offset: u64, rest: &[u8]) -> Line
-    ensures { result ≡ command name.now (followed (some offset) (numbers (fields rest.now))) }
-{
-    let e = space(rest);
-    let Number::Is(second) = value(&rest[..e]) else {
-        return Line::Bad;
-    };
-    if e == rest.len() {
-        return with_two(name, offset, second);
-    }
-    let Number::Is(third) = value(&rest[e + 1..]) else {
-        return Line::Bad;
-    };
-    with_three(name, offset, second, third)
-}
-
-// The line of a name and the text after it.
-fn with_numbers(name: &[u8], rest: &[u8]) -> Line
-    ensures { result ≡ command name.now (numbers (fields rest.now)) }
-{
-    let e = space(rest);
-    let Number::Is(first) = value(&rest[..e]) else {
-        return Line::Bad;
-    };
-    if e == rest.len() {
-        return with_one(name, first);
-    }
-    with_offset(name, first, &rest[e + 1..])
-}
-
-// What a line means: the bytes before its newline.
+// What a line means: the bytes before its newline. Its fields are parted by one space: a name, and up to three numbers.
 pub fn read(line: &[u8]) -> Line
     ensures { result ≡ line_of line.now }
 {
     if LONGEST_LINE < line.len() {
         return Line::Bad;
     }
-    let e = space(line);
-    if e == line.len() {
-        return alone(line);
+    let mut fields = line.split(|b| *b == SPACE);
+    let Some(name) = fields.next() else {
+        return Line::Bad;
+    };
+    let Some(first) = fields.next() else {
+        return alone(name);
+    };
+    let Some(first) = value(first) else {
+        return Line::Bad;
+    };
+    let Some(second) = fields.next() else {
+        return with_one(name, first);
+    };
+    let Some(second) = value(second) else {
+        return Line::Bad;
+    };
+    let Some(third) = fields.next() else {
+        return with_two(name, first, second);
+    };
+    let Some(third) = value(third) else {
+        return Line::Bad;
+    };
+    if let Some(_) = fields.next() {
+        return Line::Bad;
     }
-    with_numbers(&line[..e], &line[e + 1..])
+    with_three(name, first, second, third)
 }
 
 // The fuse that the next request has after a line.
+#[tactic(auto, unfolding(crate::specs::Lines::fuse_after))]
 pub fn fuse_after(fuse: u64, line: Line) -> u64
     ensures { result ≡ fuse_after fuse line }
 {
     match line {
-        Line::Ask { q: _ } => LARGEST,
+        Line::Ask { .. } => u64::MAX,
         Line::Fuse { k } => k,
-        Line::Walk => fuse,
-        Line::Bad => fuse,
+        Line::Walk | Line::Bad => fuse,
     }
 }

@@ -44,20 +44,14 @@ pub fn question(out: &mut [u8; 64]) -> usize
 pub fn is_left(length: usize, at: usize) -> bool
     ensures { result ≡ leb (at + header_bytes) length }
 {
-    if length < at {
-        return false;
-    }
-    Clump::HEADER <= (length - at) as u64
+    at <= length && Clump::HEADER <= (length - at) as u64
 }
 
 // Whether one more clump is to be put into the buffer: a header is left, and a line has room.
 fn one_more(length: usize, at: usize, count: usize) -> bool
     ensures { result ≡ one_more length at count }
 {
-    if !is_left(length, at) {
-        return false;
-    }
-    count <= ROOM - LINE
+    is_left(length, at) && count <= ROOM - LINE
 }
 
 // Where the walk goes on behind a clump: at its end, or at the image's where its size is at fault.

@@ -1,6 +1,6 @@
 -- What is written where in a buffer: the contracts of the code that prints, and their laws. Assumes nothing.
-use Rattle.std.specs.Prelude.{ℕ, suc, ◌+◌, ◌<◌, ◌≤◌, ◌≡◌, refl, List, [], ◌∷◌, ◌++◌, length, take, drop, get_or, set}
-use Rattle.std.proofs.Common.{sym, ap, ap₂, ◌∙◌, arith, zero-add, add-zero, add-suc, suc-add, add-one, length-append, take-append-drop, length-take-le, take-suc}
+use Rattle.std.specs.Prelude.{ℕ, suc, ◌+◌, ◌≤◌, ◌≡◌, refl, List, [], ◌∷◌, ◌++◌, length, take, drop, set}
+use Rattle.std.proofs.Common.{sym, ap, ap₂, ◌∙◌, arith, zero-add, add-zero, add-suc, suc-add, length-append, take-append-drop, length-take-le}
 use Rattle.std.proofs.lemmas.List.Edits.{sets, sets-eq}
 use Rattle.std.proofs.Math.Seq.{length-sets, take-append_seam, drop-append_seam}
 
@@ -27,14 +27,6 @@ wrote_then {x = x} {p = p} {q = q} {i = i} v w =
       stands = w.stands ∙ rw (v.stands, v.behind) (sets_append x i p q);
       behind = w.behind ∙ omega (arith, v.behind, length-append p q);
     }
-
--- one byte more of another list
-pub wrote_next :
-    {x y : List ℕ} {i k : ℕ} (ds : List ℕ) (j : ℕ)
-    → j < length ds
-    → Wrote x i (take j ds) y k
-    → Wrote x i (take (j + 1) ds) (set y k (get_or ds j 0)) (k + 1)
-wrote_next {y = y} {k = k} ds j l w = rw (add-one j, take-suc ds j 0 l) (wrote_then w (wrote_byte y k (get_or ds j 0)))
 
 -- the buffer keeps its length
 pub wrote_length : {x t y : List ℕ} {i r : ℕ} → Wrote x i t y r → length y ≡ length x

@@ -3,27 +3,14 @@
 #![tactic(auto)]
 
 ghost use Rattle.std.specs.Prelude.{◌+◌, ◌≤◌, length};
-ghost use Rattle.text.specs.Texts.{most_digits, field_bytes, decimal, field};
+ghost use Rattle.text.specs.Texts.{field_bytes, field};
 ghost use Rattle.text.specs.Writing.{Wrote};
+
+use itoa::Buffer;
 
 pub const SPACE: u8 = 32;
 
 pub const NEWLINE: u8 = 10;
-
-// Spells a number out.
-fn spell(out: &mut [u8], at: usize, n: u64) -> usize
-    requires { at + most_digits ≤ length out.old }
-    ensures wrote { Wrote out.old at (decimal n) out.new result }
-    ensures upper_bound { result ≤ at + most_digits }
-{
-    if n < 10 {
-        out[at] = b'0' + n as u8;
-        return at + 1;
-    }
-    let i = spell(out, at, n / 10);
-    out[i] = b'0' + (n % 10) as u8;
-    i + 1
-}
 
 // A number and the byte behind it.
 pub fn number(out: &mut [u8], at: usize, n: u64, end: u8) -> usize
@@ -31,7 +18,7 @@ pub fn number(out: &mut [u8], at: usize, n: u64, end: u8) -> usize
     ensures wrote { Wrote out.old at (field n end) out.new result }
     ensures upper_bound { result ≤ at + field_bytes }
 {
-    let i = spell(out, at, n);
+    let i = bytes(out, at, Buffer::new().format(n).as_bytes());
     out[i] = end;
     i + 1
 }
@@ -41,12 +28,7 @@ pub fn bytes(out: &mut [u8], at: usize, text: &[u8]) -> usize
     requires { at + length text.now ≤ length out.old }
     ensures { Wrote out.old at text.now out.new result }
 {
-    let mut next = at;
-    let mut i: usize = 0;
-    while i < text.len() {
-        out[next] = text[i];
-        next += 1;
-        i += 1;
-    }
-    next
+    let end = at + text.len();
+    out[at..end].copy_from_slice(text);
+    end
 }

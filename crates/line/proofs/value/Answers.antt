@@ -1,43 +1,35 @@
 -- `value`: an empty field, a byte that is no digit, a digit that the value has no room for, a digit that is added on, and the end.
-use Rattle.std.proofs.Common.{◌-◌, ◌/◌, ◌<◌, sym, ap, ◌∙◌, arith, get_or}
-use Rattle.rules.specs.Words.{word_values}
-use Rattle.text.specs.Texts.{zero_digit}
-use Rattle.line.specs.Lines.{value_from, in_word}
-use Rattle.line.specs.Forms.{number_in}
-use Rattle.line.specs.Scans.{scan_start, scan_end, scan_hit, scan_move}
-use Rattle.line.specs.Numbers.{number_value, number_empty, digit_range, value_done, value_stops, value_goes, value_past}
+use Rattle.std.proofs.Common.{◌≡◌, ◌+◌, ◌-◌, ◌*◌, get_or, arith, sym, ◌∙◌, eqb-true}
+use Rattle.std.proofs.lemmas.Bool.{eqb-false}
+use Rattle.line.specs.Lines.{is_digit}
+use Rattle.line.specs.Numbers.{number_empty, number_value, number_end, number_stops, number_goes, number_past}
 use Rattle.line.proofs.value.Goals as goal
 
-pub returns-then-field-eq0 : goal.returns-then-field-eq0
-returns-then-field-eq0 c = rw (number_empty _ c.if-field-eq0.true)
+pub returns-then-is_empty : goal.returns-then-is_empty
+returns-then-is_empty c = sym (number_empty _ (eqb-true _ _ (sym c.if-is_empty.ensures)))
 
-pub loop-i-init : goal.loop-i-init
-loop-i-init c =
-    (omega arith, scan_start (λ bs. number_in (in_word (value_from 0 bs))) _ _ (ap number_in (number_value _ c.if-field-eq0.false)))
+pub loop-b-init : goal.loop-b-init
+loop-b-init c = (omega arith, number_value c.args.field.now (eqb-false _ _ (sym c.if-is_empty.ensures)))
 
-pub returns-then-not-is_digit : goal.returns-then-not-is_digit
-returns-then-not-is_digit c =
-    scan_hit c.loop-i.invariant.1 c.loop-i-test.true _ (λ bs. rw (value_stops _ _ bs (sym c.if-not-is_digit.ensures)))
+pub returns-then-not-is_ascii_digit : goal.returns-then-not-is_ascii_digit
+unfolding is_digit
+returns-then-not-is_ascii_digit c = number_stops _ _ _ c.loop-b.invariant.1 c.loop-b-test.true (sym c.if-not-is_ascii_digit.ensures.value)
 
-pub overflow_sub-d : goal.overflow_sub-d
-overflow_sub-d c =
-    let d = digit_range _ (sym c.if-not-is_digit.ensures) in
-    omega arith
+pub returns-in_err-checked_mul : goal.returns-in_err-checked_mul
+unfolding is_digit
+returns-in_err-checked_mul c = c.from_residual.ensures ∙ number_past _ _ _ c.loop-b.invariant.1 c.loop-b-test.true (sym c.if-not-is_ascii_digit.ensures.value) (omega (arith, c.in_err-checked_mul.ensures))
 
-pub returns-then-d-n : goal.returns-then-d-n
-returns-then-d-n c =
-    let b = get_or c.args.field.now c.loop-i.i 0 in
-    let l : (word_values - 1 - (b - zero_digit)) / 10 < c.loop-i.n = omega arith in
-    scan_hit c.loop-i.invariant.1 c.loop-i-test.true _
-    (λ bs. ap number_in (value_past c.loop-i.n b bs (sym c.if-not-is_digit.ensures) l))
+pub returns-in_err-n : goal.returns-in_err-n
+unfolding is_digit
+returns-in_err-n c = c.from_residual-in_err-n.ensures ∙ number_past _ _ _ c.loop-b.invariant.1 c.loop-b-test.true (sym c.if-not-is_ascii_digit.ensures.value) (omega (arith, c.in_err-n.ensures, c.in_ok-checked_mul.ensures))
 
-pub loop-i-preserved : goal.loop-i-preserved
-loop-i-preserved c =
-    let d = digit_range _ (sym c.if-not-is_digit.ensures) in (
-      omega arith,
-      scan_move c.loop-i.invariant.1 c.loop-i-test.true _ (λ bs. rw (value_goes _ _ bs (sym c.if-not-is_digit.ensures))),
-    )
+pub loop-b-preserved : goal.loop-b-preserved
+unfolding is_digit
+loop-b-preserved c =
+    let b = get_or c.args.field.now c.loop-b.b-index 0 in
+    let sum : c.in_ok-n.n ≡ 10 * c.loop-b.n + (b - 48) = omega (arith, c.in_ok-n.ensures, c.in_ok-checked_mul.ensures) in
+    (omega (arith, c.in_ok-n.ensures), rw sum (number_goes _ _ _ c.loop-b.invariant.1 c.loop-b-test.true (sym c.if-not-is_ascii_digit.ensures.value)))
 
 pub returns : goal.returns
 returns c =
-    sym (ap number_in (value_done _ c.loop-i.invariant.0)) ∙ scan_end c.loop-i.invariant.1 c.loop-i-test.false
+    number_end c.args.field.now c.loop-b.n c.loop-b.b-index c.loop-b.invariant.1 (omega arith) c.loop-b.invariant.0

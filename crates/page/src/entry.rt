@@ -1,8 +1,9 @@
 // The entries of an on-list as they are stored: bit 0 of a target word marks an onfree entry, and only a stored 0 is empty. Which entries are
 // chosen goes by value: from a list, the list in which the others are empty. Asks nothing, and for no image.
-ghost use Rattle.std.specs.Prelude.{◌≡◌};
+ghost use Rattle.std.specs.Prelude.{◌≡◌, ℕ, Bool, ◌<◌};
+ghost use Rattle.rules.specs.Words.{word_values};
 ghost use Rattle.rules.specs.Clumps.{target_of, marked, unmarked};
-ghost use Rattle.page.specs.Forms.{has_bit, only, only_in, due_in, reach_of};
+ghost use Rattle.page.specs.Forms.{has_bit, only, only_in, due_in, reach_of, list_passes};
 
 use crate::clump::Clump;
 
@@ -64,4 +65,12 @@ pub fn reach(l: [[u64; 2]; 3]) -> usize
     ensures { result ≡ reach_of l }
 {
     l.iter().rposition(|e| e[0] != 0).map_or(0, |i| i + 1)
+}
+
+// Whether every used target of a list passes a test.
+pub fn all_pass<F: Fn(u64) -> bool>(l: [[u64; 2]; 3], passes: F) -> bool
+    requires { F.IsAlwaysCallable passes }
+    ensures { (q : ℕ → Bool) → ((t : ℕ) (r : Bool) → t < word_values → F.post passes t r → r ≡ q t) → result ≡ list_passes q l }
+{
+    l.iter().all(|e| e[0] == 0 || passes(target_of(e[0])))
 }

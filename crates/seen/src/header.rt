@@ -45,7 +45,7 @@ fn in_place(n: usize, t: u64) -> bool
 fn all_in_place(n: usize, l: [[u64; 2]; 3]) -> bool
     ensures { result ≡ list_passes (in_place n) l }
 {
-    l.iter().all(|&[word, _]| word == 0 || in_place(n, entry::target_of(word)))
+    entry::all_pass(l, |t| in_place(n, t))
 }
 
 // Fault 3, by the entries that wait: all of a RESERVED or ACTIVE clump, the marked ones of an ACTIVATING one, and none of any other.

@@ -97,20 +97,12 @@ pub fn valid(img: &[u8], t: u64) -> bool
     t % 8 == 0 && (word_lies(STATIC_AT, STATIC_END, t) || in_body(img, t))
 }
 
-// Whether the target of an entry is valid now, or the entry is empty.
-fn entry_valid(img: &[u8], word: u64) -> bool
-    requires { Tiled img.now }
-    ensures { result ≡ (eqb word 0 || is_valid (clumps_of img.now) (target_of word)) }
-{
-    word == 0 || valid(img, entry::target_of(word))
-}
-
 // Whether every used target of a list is valid now.
 pub fn all_valid(img: &[u8], l: [[u64; 2]; 3]) -> bool
     requires { Tiled img.now }
     ensures { result ≡ list_valid (clumps_of img.now) l }
 {
-    l.iter().all(|e| entry_valid(img, e[0]))
+    entry::all_pass(l, |t| valid(img, t))
 }
 
 // nbytes of the clump at an offset if it is FREE, else 0; 0 also where no clump stands: at 0, below the first, and behind the last.

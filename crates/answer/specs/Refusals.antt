@@ -1,7 +1,7 @@
 -- The answer of each refusal, with this paper's number and values (01: "Where an answer is an enum, a definition gives this paper's number
 -- and values for each of its cases. The promises use that definition."), and that of tests which refuse or pass. Assumes nothing.
-use Rattle.std.specs.Prelude.{◌≡◌, Result, Ok, Err}
-use Rattle.std.proofs.Common.{arith}
+use Rattle.std.specs.Prelude.{ℕ, ◌≡◌, refl, List, [], ◌∷◌, get_or, Result, Ok, Err}
+use Rattle.std.proofs.Common.{arith, ap, sym, ◌∙◌}
 use Rattle.rules.specs.declared.Answer.{Answer}
 use Rattle.rules.specs.Answers.{done, not_pool, not_sound, not_settled, size_zero, no_room, no_clump, wrong_state, list_full, list_empty, bad_target}
 use Rattle.laws.specs.Pools.{answer_is}
@@ -46,3 +46,39 @@ module _ {t : Result (Unit {0}) Refusal} where
 
   pub err_not_done : {r : Refusal} → t ≡ Err r → (answer_in t).answer ≡ done → ⊥
   err_not_done {r = r} e z = refusal_not_done r (rw e at z)
+
+-- no two cases have the same answer: the one is read off the other by its number
+cases : ℕ → ℕ → List (Result (Unit {0}) Refusal)
+cases p f =
+    Ok tt
+    ∷ Err NotAPool
+    ∷ Err (NotSound p f)
+    ∷ Err Unsettled
+    ∷ Err SizeZero
+    ∷ Err NoRoom
+    ∷ Err NoClump
+    ∷ Err WrongState
+    ∷ Err ListFull
+    ∷ Err ListEmpty
+    ∷ Err BadTarget
+    ∷ []
+
+read_by : Answer → Result (Unit {0}) Refusal
+read_by a = get_or (cases a.place a.fault) a.answer (Ok tt)
+
+read_back : (t : Result (Unit {0}) Refusal) → read_by (answer_in t) ≡ t
+unfolding read_by cases
+read_back (Ok x) = refl
+read_back (Err NotAPool) = refl
+read_back (Err (NotSound p f)) = refl
+read_back (Err Unsettled) = refl
+read_back (Err SizeZero) = refl
+read_back (Err NoRoom) = refl
+read_back (Err NoClump) = refl
+read_back (Err WrongState) = refl
+read_back (Err ListFull) = refl
+read_back (Err ListEmpty) = refl
+read_back (Err BadTarget) = refl
+
+pub answer_in_same : (s t : Result (Unit {0}) Refusal) → answer_in s ≡ answer_in t → s ≡ t
+answer_in_same s t e = sym (read_back s) ∙ ap read_by e ∙ read_back t

@@ -1,5 +1,5 @@
 -- The contracts of check and of the tests 1 and 2, and the laws of the survey and of check. Assumes nothing.
-use Rattle.std.specs.Prelude.{ℕ, Bool, cond, not, ◌||◌, [], length, Ok, Err, Some, None, is_some}
+use Rattle.std.specs.Prelude.{ℕ, Bool, cond, not, ◌||◌, [], length, Result, Ok, Err, Some, None, is_some}
 use Rattle.std.proofs.Math.Path.{◌≡◌, refl, sym}
 use Rattle.std.proofs.Common.{ap, ◌∙◌}
 use Rattle.std.proofs.Math.Bool.{true, false}
@@ -18,7 +18,7 @@ use Rattle.rules.specs.Reading.{clumps_of}
 use Rattle.laws.specs.Pools.{answer_is, granted_none, Sound, check_sound}
 use Rattle.answer.specs.declared.Refusal.{Refusal}
 use Rattle.answer.specs.declared.Refusal.TheVariants.{NotAPool, NotSound}
-use Rattle.answer.specs.Refusals.{refusal_is, answer_in, ok_done, refusal_not_done}
+use Rattle.answer.specs.Refusals.{refusal_is, answer_in, ok_done, refusal_not_done, answer_in_same}
 use Rattle.seen.specs.Forms.{judged_of, offset_in}
 use Rattle.seen.specs.declared.Fault.{Fault as Broken}
 use Rattle.seen.specs.declared.Seen.{Seen}
@@ -98,6 +98,20 @@ module _ {img : Image} {r : Surveyed} (v : Surveys img r) {x : Unit {0}} (z : r.
 
   pub surveyed_unsettled : unsettled (clumps_of img) ≡ (is_some r.seen.first || r.seen.touched)
   surveyed_unsettled = told-unsettled (length img) (mem img) r.seen surveyed_seen surveyed_fault
+
+-- any two outcomes that the contracts of the tests allow are equal
+pub surveys_determined : (img : Image) (r s : Surveyed) → Surveys img r → Surveys img s → r ≡ s
+surveys_determined img r s a b =
+    let e = answer_in_same r.tests s.tests (a.answered 0 ∙ sym (b.answered 0)) in
+    let f = a.seen_is ∙ sym b.seen_is in
+    λ i. record { tests = e i; seen = f i }
+
+pub survey_determined :
+    (img : Image) (s t : Result (Unit {0}) Refusal)
+    → ((fuse : ℕ) → answer_in s ≡ answer_of fuse (if_settled (length img) (mem img) (granted 0 [])))
+    → ((fuse : ℕ) → answer_in t ≡ answer_of fuse (if_settled (length img) (mem img) (granted 0 [])))
+    → s ≡ t
+survey_determined img s t e f = answer_in_same s t (e 0 ∙ sym (f 0))
 
 -- check, refused and accepted
 module _ {img : Image} {r : Surveyed} (v : Surveys img r) where

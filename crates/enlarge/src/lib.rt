@@ -13,10 +13,10 @@ ghost use Rattle.need.specs.Fits.{Fit};
 ghost use Rattle.enlarge.specs.Enlarging.{Growing};
 ghost use Rattle.steps.specs.Acts.{Acts};
 
+use answer::Refusal;
 use page::clump::Clump;
 use rules::Answer;
-use walk::Found;
-use word::Power;
+use word::Fuse;
 
 // The clump at h with what it needs of both together: the rest's header first, if there is one, then its own nbytes.
 fn extend(img: &mut [u8], h: usize, both: u64, size: u64, offset: u64, fuse: u64) -> Answer
@@ -24,14 +24,14 @@ fn extend(img: &mut [u8], h: usize, both: u64, size: u64, offset: u64, fuse: u64
     ensures { Acts img.old (granted offset (grow_stores (need_of size) h both)) fuse img.new result }
 {
     let need = need::need_of(size);
-    let p = Power::new(fuse);
+    let mut p = Fuse::new(fuse);
     if need::is_split(both, need) {
-        let p1 = steps::head_rest(img, p, h + need as usize, both - need);
-        let p2 = word::store(img, p1, h, need);
-        return answer::finish(p2, offset);
+        steps::head_rest(img, &mut p, h + need as usize, both - need);
+        p.store(img, h, need);
+    } else {
+        p.store(img, h, both);
     }
-    let p1 = word::store(img, p, h, both);
-    answer::finish(p1, offset)
+    answer::finish(p.power, offset)
 }
 
 // Grow, of the clump at h.
@@ -41,15 +41,14 @@ fn grow_at(img: &mut [u8], h: usize, offset: u64, size: u64, fuse: u64) -> Answe
 {
     let c = Clump::read(img, h);
     if !seen::header::waits(c.state) {
-        return answer::refusal(Answer::WRONG_STATE);
+        return Answer::from(Refusal::WrongState);
     }
     if size <= c.nbytes - Clump::HEADER {
         return answer::unstored(Answer::DONE, offset, 0);
     }
-    let next = walk::free_bytes(img, h + c.nbytes as usize);
-    let both = c.nbytes + next;
+    let both = c.nbytes + walk::free_bytes(img, h + c.nbytes as usize);
     if !need::room(both, size) {
-        return answer::refusal(Answer::NO_ROOM);
+        return Answer::from(Refusal::NoRoom);
     }
     extend(img, h, both, size, offset, fuse)
 }
@@ -57,15 +56,14 @@ fn grow_at(img: &mut [u8], h: usize, offset: u64, size: u64, fuse: u64) -> Answe
 pub fn grow(img: &mut [u8], offset: u64, size: u64, fuse: u64) -> Answer
     ensures { Does img.old (Grow offset size) fuse img.new result }
 {
-    let a = survey::survey(img);
-    if a.answer != Answer::DONE {
-        return a;
+    if let Err(refusal) = survey::survey(img) {
+        return Answer::from(refusal);
     }
     if size == 0 {
-        return answer::refusal(Answer::SIZE_ZERO);
+        return Answer::from(Refusal::SizeZero);
     }
-    let Found::At(h, _) = walk::find(img, offset) else {
-        return answer::refusal(Answer::NO_CLUMP);
+    let Some(found) = walk::find(img, offset) else {
+        return Answer::from(Refusal::NoClump);
     };
-    grow_at(img, h, offset, size, fuse)
+    grow_at(img, found.at, offset, size, fuse)
 }

@@ -11,7 +11,7 @@ use case::Case;
 use case::line::{Line, Numbers, Reading};
 use outcome::Outcome;
 use rules::Request;
-use word::Power;
+use word::Fuse;
 
 // Whether a word lies at that offset of an image of n bytes.
 fn word_lies(n: usize, at: u64) -> bool
@@ -32,7 +32,7 @@ fn put_words(img: &mut [u8], numbers: &Numbers, count: usize) -> Option<()>
         if !word_lies(img.len(), at) {
             return None;
         }
-        word::store(img, Power::new(1), at as usize, w);
+        Fuse::new(1).store(img, at as usize, w);
     }
     Some(())
 }

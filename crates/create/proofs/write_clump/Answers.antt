@@ -5,4 +5,4 @@ use Rattle.create.proofs.write_clump.Goals as goal
 
 pub returns : goal.returns
 returns c =
-    rw low_is (ran_then c.zero_words-p1.ensures (ran_then c.store-p2.ensures (ran_then c.zero_words-p3.ensures c.store.ensures)))
+    rw low_is (ran_then c.zero_words.ensures (ran_then c.store.ensures (ran_then c.zero_words-2.ensures c.store-2.ensures)))

@@ -5,4 +5,4 @@ use Rattle.create.proofs.write_pages.Goals as goal
 
 pub returns : goal.returns
 returns c =
-    rw high_is (ran_then c.store-p1.ensures (ran_then c.zero_words-p2.ensures (ran_then c.store-p3.ensures c.store.ensures)))
+    rw high_is (ran_then c.store.ensures (ran_then c.zero_words.ensures (ran_then c.store-2.ensures c.store-3.ensures)))

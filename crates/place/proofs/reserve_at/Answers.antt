@@ -3,22 +3,25 @@ use Rattle.std.proofs.Common.{arith, sym, ◌∙◌}
 use Rattle.laws.specs.Needs.{need_even}
 use Rattle.place.specs.Places.{split_acts, whole_acts}
 use Rattle.place.proofs.reserve_at.Goals as goal
+use Rattle.place.proofs.reserve_at.Goals.{then-is_split, else-is_split}
 
-pub split_off-q-requires-clause-word_bytes_value : goal.split_off-q-requires-clause-word_bytes_value
-split_off-q-requires-clause-word_bytes_value c =
+pub split_off-requires-clause-rest_aligned : goal.split_off-requires-clause-rest_aligned
+split_off-requires-clause-rest_aligned c =
     let k = c.need_of-need.ensures in
     let d = need_even c.args.size in
-    let i = c.requires in
-    (omega arith, omega arith)
-
-pub returns-then-is_split : goal.returns-then-is_split
-returns-then-is_split c =
-    split_acts _ _ _ _ _ _ _ _ c.new-p.ensures c.get-n.ensures c.need_of-need.ensures (sym c.is_split.ensures ∙ c.if-is_split.true)
-    c.split_off-q.ensures
-    c.finish.ensures
+    omega arith
 
 pub returns : goal.returns
 returns c =
-    whole_acts _ _ _ _ _ _ _ _ c.new-p.ensures c.get-n.ensures c.need_of-need.ensures (sym c.is_split.ensures ∙ c.if-is_split.false)
-    c.take_whole-q.ensures
-    c.finish-2.ensures
+    elim c.if-is_split.branch [
+      | then-is_split w ↦
+          rw w.img-is
+          (split_acts _ _ _ _ _ _ _ _ c.new-p.ensures c.get-n.ensures c.need_of-need.ensures (sym c.is_split.ensures ∙ w.if-is_split.true)
+          w.split_off.ensures
+          (rw w.p-is at c.finish.ensures))
+      | else-is_split w ↦
+          rw w.img-is
+          (whole_acts _ _ _ _ _ _ _ _ c.new-p.ensures c.get-n.ensures c.need_of-need.ensures (sym c.is_split.ensures ∙ w.if-is_split.false)
+          w.take_whole.ensures
+          (rw w.p-is at c.finish.ensures))
+    ]

@@ -4,4 +4,4 @@ use Rattle.place.proofs.split_off.Goals as goal
 
 pub returns : goal.returns
 returns c =
-    ran_then c.head_rest-p1.ensures (ran_then c.empty_targets-p2.ensures (ran_then c.store-p3.ensures c.take.ensures))
+    ran_then c.head_rest.ensures (ran_then c.empty_targets.ensures (ran_then c.store.ensures c.take.ensures))

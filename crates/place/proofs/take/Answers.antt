@@ -4,12 +4,12 @@ use Rattle.laws.specs.Clearing.{cleared_room}
 use Rattle.word.specs.Runs.{ran_then}
 use Rattle.place.proofs.take.Goals as goal
 
-pub zero_words-p1-requires-clause-count_in_bounds : goal.zero_words-p1-requires-clause-count_in_bounds
-zero_words-p1-requires-clause-count_in_bounds c =
-    let k = c.cleared_words-words.ensures in
+pub zero_words-requires-clause-in_image : goal.zero_words-requires-clause-in_image
+zero_words-requires-clause-in_image c =
+    let k = c.cleared_words.ensures in
     let i = c.requires in
     let r = cleared_room c.args.clears c.args.size (omega arith) in
     omega arith
 
 pub returns : goal.returns
-returns c = rw (← c.cleared_words-words.ensures) (ran_then c.zero_words-p1.ensures c.store.ensures)
+returns c = rw (← c.cleared_words.ensures) (ran_then c.zero_words.ensures c.store.ensures)

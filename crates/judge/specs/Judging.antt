@@ -1,11 +1,10 @@
--- The judge's enum tells the rule's answer. Assumes nothing.
-use Rattle.std.specs.Prelude.{ℕ, ◌≡◌, refl}
+-- The judge's answer tells the rule's. Assumes nothing.
+use Rattle.std.specs.Prelude.{◌≡◌, refl, None}
 use Rattle.std.proofs.Math.Option.{Option, some, none}
-use Rattle.std.proofs.Common.{arith}
+use Rattle.std.proofs.lemmas.Option.{none-some}
 use Rattle.rules.specs.Sound.{Fault}
-use Rattle.judge.specs.Forms.{judged_of}
-use Rattle.judge.specs.declared.Judged.TheVariants.{Sound}
+use Rattle.seen.specs.Forms.{judged_of}
 
-pub judged_sound : (o : Option Fault) → Sound ≡ judged_of o → o ≡ none
+pub judged_sound : (o : Option Fault) → None ≡ judged_of o → o ≡ none
 judged_sound none e = refl
-judged_sound (some f) e = absurd (let z : ◌≡◌ {A = ℕ} 0 1 = cc in omega arith)
+judged_sound (some f) e = absurd (none-some _ e)

@@ -1,3 +1,2 @@
--- What the contracts of `judge` cite beside the rules, and what its enum tells.
-pub mod Forms
+-- What the judge's answer tells.
 pub mod Judging

@@ -7,19 +7,12 @@ ghost use Rattle.rules.specs.Words.{mem, word_bytes};
 ghost use Rattle.rules.specs.Clumps.{head};
 ghost use Rattle.rules.specs.Sound.{fault_of, judge};
 ghost use Rattle.rules.specs.Reading.{clumps_of};
+ghost use Rattle.seen.specs.Forms.{judged_of};
 ghost use Rattle.seen.specs.States.{UpTo, takes, seen};
-ghost use Rattle.judge.specs.Forms.{judged_of};
 
 use page::clump::Clump;
 use page::{CLUMPS_AT, entry};
-use seen::Seen;
-
-// No fault, or the first with its place.
-#[derive(Clone, Copy)]
-pub enum Judged {
-    Sound,
-    Fault { place: u64, fault: u64 },
-}
+use seen::{Fault, Seen};
 
 // What was seen, with the clump at h. A header that does not lie in the image cannot have a size that does, so that no word past the end is
 // read.
@@ -31,60 +24,49 @@ fn see_clump(img: &[u8], s: Seen, h: usize) -> Seen
 {
     let n = img.len();
     if ((n - h) as u64) < Clump::LEAST {
-        return seen::fail(s, h, 1);
+        return s.fail(Fault {
+            place: h,
+            number: 1,
+        });
     }
-    let c = Clump::read(img, h);
-    let l = Clump::list(img, h);
-    seen::take(s, n, h, c, l)
+    s.take(n, Clump::read(img, h), Clump::list(img, h))
 }
 
 // The one walk, up to the first of the faults 1 to 3.
 pub fn see(img: &[u8]) -> Seen
     ensures { result ≡ seen (length img.now) (mem img.now) (clumps_of img.now) }
 {
-    let mut s = seen::start();
+    let mut s = Seen::start();
     let mut h: usize = CLUMPS_AT;
-    loop {
-        if img.len() <= h {
-            return s;
-        }
+    while h < img.len() {
         s = see_clump(img, s, h);
-        if s.fault != 0 {
+        if s.fault.is_some() {
             return s;
         }
         let c = Clump::read(img, h);
         h += c.nbytes as usize;
     }
+    s
 }
 
 // The first fault of all, by what the walk has seen.
-pub fn judge(img: &[u8], s: Seen) -> Judged
+pub fn judge(img: &[u8], s: Seen) -> Option<Fault>
     requires { s ≡ seen (length img.now) (mem img.now) (clumps_of img.now) }
     ensures { result ≡ judged_of (judge (length img.now) (mem img.now)) }
 {
-    if s.fault != 0 {
-        return Judged::Fault {
-            place: s.place as u64,
-            fault: s.fault,
-        };
+    if let Some(fault) = s.fault {
+        return Some(fault);
     }
-    if s.second != 0 {
-        return Judged::Fault {
-            place: s.second as u64,
-            fault: 4,
-        };
+    if let Some(place) = s.second {
+        return Some(Fault { place, number: 4 });
     }
-    if s.first == 0 {
-        return Judged::Sound;
-    }
-    let c = Clump::read(img, s.first);
-    let l = Clump::list(img, s.first);
+    let place = s.first?;
+    let c = Clump::read(img, place);
+    let l = Clump::list(img, place);
     let due = entry::due(c.state, l);
     if walk::all_valid(img, due) {
-        return Judged::Sound;
-    }
-    Judged::Fault {
-        place: s.first as u64,
-        fault: 5,
+        None
+    } else {
+        Some(Fault { place, number: 5 })
     }
 }

@@ -1,34 +1,33 @@
 -- What the state is after any beginning of the clumps: the clumps before the first fault, of which `Parts` tells, and then the fault. By
 -- induction on the clumps. Assumes nothing.
 use Prim.Native.Nat.{ℕ, zero, suc, ◌+◌, ◌≤◌}
-use Rattle.std.specs.Prelude.{◌≡◌, Bool, cond, eqb}
+use Rattle.std.specs.Prelude.{◌≡◌, Bool, cond, eqb, IsSome, IsNone}
 use Rattle.std.proofs.Math.Path.{refl}
 use Rattle.std.proofs.Common.{sym, ap, subst, ◌∙◌}
 use Rattle.std.proofs.Math.Bool.{true, false}
 use Rattle.std.proofs.Math.Option.{Option, some, none}
-use mathlib.Core.List.{List, [], ◌∷◌, ◌++◌}
+use mathlib.Core.List.{List, [], ◌∷◌}
 use native.Mathlib.Omega.{arith}
-use borrow.Author.Tests.{eq-eqb, ne_eqb, eqb-true}
-use Rattle.rules.specs.Lists.{Each}
+use borrow.Author.Tests.{ne_eqb, eqb-true}
 use Rattle.rules.specs.Words.{Mem}
-use Rattle.rules.specs.Clumps.{Head, has_state, walk, FREE, RESERVED, ACTIVATING, ACTIVE, FREEING}
+use Rattle.rules.specs.Clumps.{Head, has_state, FREE, RESERVED, ACTIVATING, ACTIVE, FREEING}
 use Rattle.rules.specs.Sound.{Fault, fault_of, clump_fault}
-use Rattle.laws.specs.Searches.{some-none, each_left}
-use Rattle.laws.specs.Walks.{Low, walk_low, clump_hit, clump_pass, clump_end}
+use Rattle.laws.specs.Searches.{differ, some-none}
+use Rattle.laws.specs.Walks.{clump_hit, clump_pass, clump_end}
 use Rattle.seen.specs.declared.Seen.{Seen}
-use Rattle.seen.specs.States.{UpTo, nothing, broken, plus, more, takes, seen_from, seen, until_fault, number_of, Sees, After}
+use Rattle.seen.specs.States.{UpTo, nothing, broken, plus, more, takes, seen_from, seen, until_fault, Sees, After}
 use Rattle.seen.specs.Parts.{mores, mores_sees, mores-fault}
 
 -- one clump more
 module _ (n : ℕ) (m : Mem) (s : Seen) where
-  pub seen_stays : (hs : List Head) → (s.fault ≡ 0 → ⊥) → seen_from n m s hs ≡ s
+  pub seen_stays : (hs : List Head) → IsSome s.fault → seen_from n m s hs ≡ s
   unfolding seen_from
   seen_stays [] f = refl
-  seen_stays (h ∷ hs) f = rw (ne_eqb s.fault 0 f)
+  seen_stays (h ∷ hs) f = rw f
 
-  pub seen_step : (h : Head) (hs : List Head) → s.fault ≡ 0 → seen_from n m s (h ∷ hs) ≡ seen_from n m (takes (fault_of n m h) s h) hs
+  pub seen_step : (h : Head) (hs : List Head) → IsNone s.fault → seen_from n m s (h ∷ hs) ≡ seen_from n m (takes (fault_of n m h) s h) hs
   unfolding seen_from
-  seen_step h hs z = rw (eq-eqb s.fault 0 z)
+  seen_step h hs z = rw z
 
   pub seen_end : seen_from n m s [] ≡ s
   unfolding seen_from
@@ -36,12 +35,12 @@ module _ (n : ℕ) (m : Mem) (s : Seen) where
 
 -- a state that takes a clump in and is then without fault: the clump had none, and the totals have stayed within its end
 module _ (f : ℕ) (s : Seen) (h : Head) where
-  pub takes_sound : (takes f s h).fault ≡ 0 → f ≡ 0
+  pub takes_sound : IsNone (takes f s h).fault → f ≡ 0
   takes_sound e = go (eqb f 0) refl e
     where
-      go : (b : Bool) → eqb f 0 ≡ b → (cond b (more s h) (broken f h.at s)).fault ≡ 0 → f ≡ 0
+      go : (b : Bool) → eqb f 0 ≡ b → IsNone (cond b (more s h) (broken f h.at s)).fault → f ≡ 0
       go true p e = eqb-true f 0 p
-      go false p e = e
+      go false p e = differ refl e
 
   plus_least : (k t a : ℕ) → k ≤ a → plus k t h ≤ a + h.nbytes
   plus_least k t a l = go (has_state t h)
@@ -66,7 +65,7 @@ ended none s = s
 ended (some f) s = broken f.number f.place s
 
 module _ (n : ℕ) (m : Mem) where
-  comes_to : (s : Seen) (hs : List Head) → s.fault ≡ 0 → seen_from n m s hs ≡ ended (clump_fault n m hs) (mores s (until_fault n m hs))
+  comes_to : (s : Seen) (hs : List Head) → IsNone s.fault → seen_from n m s hs ≡ ended (clump_fault n m hs) (mores s (until_fault n m hs))
   unfolding seen_from mores until_fault
   comes_to s [] z = rw (clump_end n m)
   comes_to s (h ∷ hs) z = go (fault_of n m h) refl (comes_to (more s h) hs z)
@@ -81,7 +80,7 @@ module _ (n : ℕ) (m : Mem) where
           let f : suc k ≡ 0 → ⊥ = λ x. omega arith in
           let g = ne_eqb (suc k) 0 f in
           seen_step n m s h hs z
-          ∙ rw (clump_hit n m h hs (suc k) (sym e) f, e, g) (seen_stays n m (broken (suc k) h.at s) hs f)
+          ∙ rw (clump_hit n m h hs (suc k) (sym e) f, e, g) (seen_stays n m (broken (suc k) h.at s) hs refl)
 
   -- without a fault they are all
   until_none : (hs : List Head) → clump_fault n m hs ≡ none → until_fault n m hs ≡ hs
@@ -93,49 +92,23 @@ module _ (n : ℕ) (m : Mem) where
       go zero p ih = rw p (ap (λ (q : List Head). h ∷ q) (ih (sym (clump_pass n m h hs p) ∙ e)))
       go (suc k) p ih = some-none (clump_hit n m h hs (suc k) (sym p) (λ x. omega arith)) e
 
-  until_each : (P : Head → Type 0) (hs : List Head) → Each P hs → Each P (until_fault n m hs)
-  unfolding until_fault
-  until_each P [] l = tt
-  until_each P (h ∷ hs) l = go (eqb (fault_of n m h) 0) (until_each P hs l.1)
-    where
-      go : (b : Bool) → Each P (until_fault n m hs) → Each P (cond b (h ∷ until_fault n m hs) [])
-      go true r = (l.0, r)
-      go false r = tt
-
-  -- no fault has the number 0
-  fault-number : (hs : List Head) (f : Fault) → clump_fault n m hs ≡ some f → f.number ≡ 0 → ⊥
-  fault-number [] f e z = some-none e (clump_end n m)
-  fault-number (h ∷ hs) f e z = go (fault_of n m h) refl (λ p. fault-number hs f p z)
-    where
-      go : (k : ℕ) → fault_of n m h ≡ k → (clump_fault n m hs ≡ some f → ⊥) → ⊥
-      go zero p ih = ih (sym (clump_pass n m h hs p) ∙ e)
-      go (suc k) p ih =
-          let q = clump_hit n m h hs (suc k) (sym p) (λ x. omega arith) in
-          let i : suc k ≡ f.number = cc in
-          omega arith
-
--- whatever beginning of the walk they are
-pub seen-after : (n : ℕ) (m : Mem) (hs rest : List Head) → walk n m ≡ hs ++ rest → After n m hs (seen n m hs)
-seen-after n m hs rest e =
-    let l = until_each n m Low hs (each_left Low hs rest (subst (Each Low) e (walk_low n m))) in
-    subst (After n m hs) (sym (comes_to n m nothing hs refl)) (go (clump_fault n m hs) refl (mores_sees (until_fault n m hs) l))
+-- whatever clumps they are
+pub seen-after : (n : ℕ) (m : Mem) (hs : List Head) → After n m hs (seen n m hs)
+seen-after n m hs = subst (After n m hs) (sym (comes_to n m nothing hs refl)) (go (clump_fault n m hs) refl (mores_sees (until_fault n m hs)))
   where
     go : (o : Option Fault) → clump_fault n m hs ≡ o → Sees (until_fault n m hs) (mores nothing (until_fault n m hs)) → After n m hs (ended (clump_fault n m hs) (mores nothing (until_fault n m hs)))
-    go none p w =
-        let z = mores-fault nothing (until_fault n m hs) in
-        rw p (record { fault_is = rw p z.0; place_is = rw p z.1; sees = w })
+    go none p w = rw p (record { fault_is = rw p (mores-fault nothing (until_fault n m hs)); sees = w })
     go (some f) p w =
         rw p
         (record {
           fault_is = rw p refl;
-          place_is = rw p refl;
           sees = record { first_is = w.first_is; second_is = w.second_is; free_is = w.free_is; touched_is = w.touched_is; totals_are = w.totals_are };
         })
 
 -- without a fault, that is all of them
-pub after_sound : {n : ℕ} {m : Mem} {hs : List Head} {s : Seen} → After n m hs s → s.fault ≡ 0 → (clump_fault n m hs ≡ none) × Sees hs s
+pub after_sound : {n : ℕ} {m : Mem} {hs : List Head} {s : Seen} → After n m hs s → IsNone s.fault → (clump_fault n m hs ≡ none) × Sees hs s
 after_sound {n} {m} {hs} {s} a z = go (clump_fault n m hs) refl
   where
     go : (o : Option Fault) → clump_fault n m hs ≡ o → (clump_fault n m hs ≡ none) × Sees hs s
     go none p = (p, subst (λ (q : List Head). Sees q s) (until_none n m hs p) a.sees)
-    go (some f) p = absurd (fault-number n m hs f p (sym (a.fault_is ∙ ap number_of p) ∙ z))
+    go (some f) p = differ refl (rw (a.fault_is, p) at z)

@@ -1,12 +1,12 @@
--- Laws of the faults 1 to 3 of one clump: a law for each way out of each test, and the header's words stand for the memory that holds
--- them. Assumes nothing.
+-- Laws of the faults 1 to 3 of one clump: the size's tests as the code makes them, what a clump without fault is, and the header's words
+-- stand for the memory that holds them. Assumes nothing.
 use Rattle.std.specs.Prelude.{ℕ, ◌+◌, ◌-◌, ◌%◌, ◌<◌, ◌≤◌, Bool, cond, not, ◌&&◌, ◌||◌, List, [], ◌∷◌, eqb}
 use Rattle.std.proofs.Math.Path.{◌≡◌, refl}
 use Rattle.std.proofs.Common.{sym, ap, ◌∙◌, arith}
 use Rattle.std.proofs.Math.Bool.{true, false, or-true}
 use Rattle.std.proofs.Math.Decide.{dec_lt}
 use Rattle.std.proofs.Math.Dec.{ltb}
-use borrow.Author.Tests.{lt-ltb, le-ltb, ltb-false, eq-eqb, ne_eqb}
+use borrow.Author.Tests.{lt-ltb, ltb-false}
 use Rattle.rules.specs.Lists.{those, any, all}
 use Rattle.rules.specs.Words.{Mem}
 use Rattle.rules.specs.Pages.{unit}
@@ -19,14 +19,6 @@ use Rattle.page.specs.Forms.{list_at, only_in, list_passes}
 use Rattle.page.specs.Slots.{only-used, passes_by}
 use Rattle.seen.specs.Forms.{list_bad_in, fault_in}
 
--- a state that is one of two
-module _ (s a b : ℕ) where
-  pub state_first : s ≡ a → true ≡ (eqb s a || eqb s b)
-  state_first e = rw (eq-eqb s a e)
-
-  pub state_second : (s ≡ a → ⊥) → eqb s b ≡ (eqb s a || eqb s b)
-  state_second f = rw (ne_eqb s a f)
-
 -- fault 1
 module _ (n : ℕ) (h : Head) where
   -- of a header that does not lie in the image, whatever its words
@@ -38,51 +30,26 @@ module _ (n : ℕ) (h : Head) where
         | no p ↦ rw (lt-ltb n (h.at + h.nbytes) (omega arith), or-true)
       ]
 
-  pub size_odd : (h.nbytes % unit ≡ 0 → ⊥) → true ≡ size_bad n h
+  -- of one that does, the tests as the code makes them
+  pub size_tests : h.at ≤ n → size_bad n h ≡ (not (eqb (h.nbytes % unit) 0) || ltb h.nbytes least_clump || ltb (n - h.at) h.nbytes)
   unfolding size_bad
-  size_odd f = rw (ne_eqb (h.nbytes % unit) 0 f)
+  size_tests u = rw (ltb_same (n - h.at) h.nbytes n (h.at + h.nbytes) (λ k. omega arith) (λ k. omega arith))
 
-  pub size_small : h.nbytes < least_clump → true ≡ size_bad n h
-  unfolding size_bad
-  size_small l = rw (lt-ltb h.nbytes least_clump l, or-true)
-
-  pub size_room : h.nbytes % unit ≡ 0 → least_clump ≤ h.nbytes → h.at ≤ n → ltb (n - h.at) h.nbytes ≡ size_bad n h
-  unfolding size_bad
-  size_room f l u =
-      rw (eq-eqb (h.nbytes % unit) 0 f, le-ltb h.nbytes least_clump l)
-      (ltb_same (n - h.at) h.nbytes n (h.at + h.nbytes) (λ k. omega arith) (λ k. omega arith))
-
--- the faults 1 to 3 of a clump, a law for each way out
-module _ (n : ℕ) (l : List (List ℕ)) (h : Head) where
-  pub fault_size : size_bad n h ≡ true → 1 ≡ fault_in n l h
-  unfolding fault_in
-  fault_size e = rw e
-
-  module _ (size : size_bad n h ≡ false) where
-    pub fault_state : FREEING < h.state → 2 ≡ fault_in n l h
-    unfolding fault_in state_bad
-    fault_state u = rw (size, lt-ltb FREEING h.state u)
-
-    module _ (state : h.state ≤ FREEING) where
-      pub fault_list : (b : Bool) → b ≡ list_bad_in n h.state l → cond b 3 0 ≡ fault_in n l h
-      unfolding fault_in state_bad
-      fault_list b f = rw (size, le-ltb FREEING h.state state, ← f)
-
-  -- without one of them it ends in the image, and its state is one of the five
-  pub fault_none : fault_in n l h ≡ 0 → (end_of h ≤ n) × (h.state ≤ FREEING)
-  unfolding fault_in state_bad
-  fault_none e = go (size_bad n h) refl (ltb FREEING h.state) refl e
-    where
-      go :
-          (b : Bool)
-          → size_bad n h ≡ b
-          → (c : Bool)
-          → ltb FREEING h.state ≡ c
-          → ◌≡◌ {A = ℕ} (cond b 1 (cond c 2 (cond (list_bad_in n h.state l) 3 0))) 0
-          → (end_of h ≤ n) × (h.state ≤ FREEING)
-      go true f c g x = absurd (omega arith)
-      go false f true g x = absurd (omega arith)
-      go false f false g x = ((size_good n h f).2, ltb-false FREEING h.state g)
+-- a clump without one of the faults 1 to 3 ends in the image, and its state is one of the five
+pub fault_none : (n : ℕ) (l : List (List ℕ)) (h : Head) → fault_in n l h ≡ 0 → (end_of h ≤ n) × (h.state ≤ FREEING)
+unfolding fault_in state_bad
+fault_none n l h e = go (size_bad n h) refl (ltb FREEING h.state) refl e
+  where
+    go :
+        (b : Bool)
+        → size_bad n h ≡ b
+        → (c : Bool)
+        → ltb FREEING h.state ≡ c
+        → ◌≡◌ {A = ℕ} (cond b 1 (cond c 2 (cond (list_bad_in n h.state l) 3 0))) 0
+        → (end_of h ≤ n) × (h.state ≤ FREEING)
+    go true f c g x = absurd (omega arith)
+    go false f true g x = absurd (omega arith)
+    go false f false g x = ((size_good n h f).2, ltb-false FREEING h.state g)
 
 -- some fails exactly where not all pass
 some_fails : (q : ℕ → Bool) (sl : List ℕ) → any (λ s. not (q s)) sl ≡ not (all q sl)

@@ -1,17 +1,17 @@
 -- What is seen of clumps that have no fault: each part of the state goes by itself, by induction on the clumps with what was there before.
 -- Assumes nothing.
-use Rattle.std.specs.Prelude.{ℕ, ◌+◌, ◌≡◌, refl, Bool, true, false, cond, ◌&&◌, ◌||◌, List, [], ◌∷◌}
-use Rattle.std.proofs.Common.{sym, ap, ◌∙◌, arith, zero-add, add-zero, eq-eqb, ne_eqb}
+use Rattle.std.specs.Prelude.{ℕ, ◌+◌, ◌≡◌, refl, Bool, true, false, cond, ◌&&◌, ◌||◌, List, [], ◌∷◌, Option, Some, None}
+use Rattle.std.proofs.Common.{sym, ap, ◌∙◌, arith, zero-add, add-zero}
 use Rattle.std.proofs.Math.Bool.{and-true, and-false}
 use Rattle.rules.specs.declared.Totals.{Totals}
-use Rattle.rules.specs.Lists.{seek, those, Each}
-use Rattle.rules.specs.Clumps.{Head, has_state, is_free, is_pending, offset_of, FREE, RESERVED, ACTIVATING, ACTIVE, FREEING}
+use Rattle.rules.specs.Lists.{seek, those}
+use Rattle.rules.specs.Clumps.{Head, has_state, is_free, is_pending, FREE, RESERVED, ACTIVATING, ACTIVE, FREEING}
 use Rattle.rules.specs.Sound.{second, second_fault, starts_free, touching}
 use Rattle.rules.specs.Answers.{bytes_of, total_of}
 use Rattle.laws.specs.Searches.{seek_hit, seek_pass, seek_nil}
-use Rattle.laws.specs.Walks.{Low}
 use Rattle.seen.specs.declared.Seen.{Seen}
-use Rattle.seen.specs.States.{nothing, plus, each_total, marked, more, place_of, ends_free, Sees}
+use Rattle.seen.specs.Forms.{place_of, offset_in}
+use Rattle.seen.specs.States.{nothing, plus, each_total, marked, more, ends_free, Sees}
 
 -- all the clumps, where none has a fault
 unfoldable pub mores : Seen → List Head → Seen
@@ -73,27 +73,27 @@ mores_touched s (h ∷ hs) = mores_touched (more s h) hs ∙ go s.touched s.free
     go false false false d = refl
 
 -- the first unfinished clump behind a mark
-marks : ℕ → List Head → ℕ
+marks : Option ℕ → List Head → Option ℕ
 marks old [] = old
 marks old (h ∷ hs) = marks (cond (is_pending h) (marked old h) old) hs
 
-cond_same : (b : Bool) (x : ℕ) → cond b x x ≡ x
+cond_same : (b : Bool) (x : Option ℕ) → cond b x x ≡ x
 cond_same true x = refl
 cond_same false x = refl
 
-marks_kept : (old : ℕ) (hs : List Head) → (old ≡ 0 → ⊥) → marks old hs ≡ old
+marks_kept : (a : ℕ) (hs : List Head) → marks (Some a) hs ≡ Some a
 unfolding marks
-marks_kept old [] f = refl
-marks_kept old (h ∷ hs) f = rw (ne_eqb old 0 f, cond_same) (marks_kept old hs f)
+marks_kept a [] = refl
+marks_kept a (h ∷ hs) = rw cond_same (marks_kept a hs)
 
-marks_found : (hs : List Head) → Each Low hs → marks 0 hs ≡ offset_of 0 (seek is_pending hs)
+marks_found : (hs : List Head) → marks None hs ≡ offset_in (seek is_pending hs)
 unfolding marks
-marks_found [] l = ap (offset_of 0) (sym (seek_nil is_pending))
-marks_found (h ∷ hs) l = go (is_pending h) refl (marks_found hs l.1)
+marks_found [] = ap offset_in (sym (seek_nil is_pending))
+marks_found (h ∷ hs) = go (is_pending h) refl (marks_found hs)
   where
-    go : (b : Bool) → is_pending h ≡ b → marks 0 hs ≡ offset_of 0 (seek is_pending hs) → marks (cond (is_pending h) (marked 0 h) 0) hs ≡ offset_of 0 (seek is_pending (h ∷ hs))
-    go true e ih = rw e (marks_kept h.at hs (λ x. omega (arith, l.0)) ∙ ap (offset_of 0) (sym (seek_hit is_pending h hs e)))
-    go false e ih = rw e (ih ∙ ap (offset_of 0) (sym (seek_pass is_pending h hs e)))
+    go : (b : Bool) → is_pending h ≡ b → marks None hs ≡ offset_in (seek is_pending hs) → marks (cond (is_pending h) (marked None h) None) hs ≡ offset_in (seek is_pending (h ∷ hs))
+    go true e ih = rw e (marks_kept h.at hs ∙ ap offset_in (sym (seek_hit is_pending h hs e)))
+    go false e ih = rw e (ih ∙ ap offset_in (sym (seek_pass is_pending h hs e)))
 
 mores-first : (s : Seen) (hs : List Head) → (mores s hs).first ≡ marks s.first hs
 unfolding mores marks
@@ -101,58 +101,55 @@ mores-first s [] = refl
 mores-first s (h ∷ hs) = mores-first (more s h) hs
 
 -- and the second: the first behind the first
-second_seek : (h : Head) (hs : List Head) → place_of (second (h ∷ those is_pending hs)) ≡ offset_of 0 (seek is_pending hs)
+second_seek : (h : Head) (hs : List Head) → place_of (second (h ∷ those is_pending hs)) ≡ offset_in (seek is_pending hs)
 unfolding those
-second_seek h [] = ap (offset_of 0) (sym (seek_nil is_pending))
+second_seek h [] = ap offset_in (sym (seek_nil is_pending))
 second_seek h (k ∷ hs) = go (is_pending k) refl (second_seek h hs)
   where
-    go : (b : Bool) → is_pending k ≡ b → place_of (second (h ∷ those is_pending hs)) ≡ offset_of 0 (seek is_pending hs) → place_of (second (h ∷ those is_pending (k ∷ hs))) ≡ offset_of 0 (seek is_pending (k ∷ hs))
-    go true e ih = rw e (ap (offset_of 0) (sym (seek_hit is_pending k hs e)))
-    go false e ih = rw e (ih ∙ ap (offset_of 0) (sym (seek_pass is_pending k hs e)))
+    go : (b : Bool) → is_pending k ≡ b → place_of (second (h ∷ those is_pending hs)) ≡ offset_in (seek is_pending hs) → place_of (second (h ∷ those is_pending (k ∷ hs))) ≡ offset_in (seek is_pending (k ∷ hs))
+    go true e ih = rw e (ap offset_in (sym (seek_hit is_pending k hs e)))
+    go false e ih = rw e (ih ∙ ap offset_in (sym (seek_pass is_pending k hs e)))
 
-mores_next : (s : Seen) (hs : List Head) → (s.first ≡ 0 → ⊥) → (mores s hs).second ≡ marks s.second hs
+mores_next : (s : Seen) (hs : List Head) (a : ℕ) → s.first ≡ Some a → (mores s hs).second ≡ marks s.second hs
 unfolding mores marks
-mores_next s [] f = refl
-mores_next s (h ∷ hs) f =
-    let e = ne_eqb s.first 0 f in
-    let a : (more s h).first ≡ s.first = rw (e, cond_same) in
-    mores_next (more s h) hs (λ x. f (sym a ∙ x)) ∙ rw (e, and-true)
+mores_next s [] a e = refl
+mores_next s (h ∷ hs) a e = mores_next (more s h) hs a (rw (e, cond_same)) ∙ rw (e, and-true)
 
-mores-second : (s : Seen) (hs : List Head) → Each Low hs → s.first ≡ 0 → s.second ≡ 0 → (mores s hs).second ≡ place_of (second (those is_pending hs))
+mores-second : (s : Seen) (hs : List Head) → s.first ≡ None → s.second ≡ None → (mores s hs).second ≡ place_of (second (those is_pending hs))
 unfolding mores those
-mores-second s [] l e f = f
-mores-second s (h ∷ hs) l e f = go (is_pending h) refl (mores-second (more s h) hs l.1)
+mores-second s [] e f = f
+mores-second s (h ∷ hs) e f = go (is_pending h) refl (mores-second (more s h) hs)
   where
-    unmarked : (more s h).second ≡ 0
-    unmarked = rw (eq-eqb s.first 0 e, and-false) f
+    unmarked : (more s h).second ≡ None
+    unmarked = rw (e, and-false) f
 
     go :
         (b : Bool)
         → is_pending h ≡ b
-        → ((more s h).first ≡ 0 → (more s h).second ≡ 0 → (mores (more s h) hs).second ≡ place_of (second (those is_pending hs)))
+        → ((more s h).first ≡ None → (more s h).second ≡ None → (mores (more s h) hs).second ≡ place_of (second (those is_pending hs)))
         → (mores (more s h) hs).second ≡ place_of (second (those is_pending (h ∷ hs)))
     go true p ih =
-        let a : (more s h).first ≡ h.at = rw (p, eq-eqb s.first 0 e) in
-        mores_next (more s h) hs (λ x. omega (arith, l.0))
-        ∙ ap (λ (k : ℕ). marks k hs) unmarked
-        ∙ marks_found hs l.1
+        let a : (more s h).first ≡ Some h.at = rw (p, e) in
+        mores_next (more s h) hs h.at a
+        ∙ ap (λ (k : Option ℕ). marks k hs) unmarked
+        ∙ marks_found hs
         ∙ sym (second_seek h hs)
         ∙ rw p
     go false p ih = ih (rw p e) unmarked ∙ rw p
 
 -- all of them, from the first clump on
-pub mores_sees : (hs : List Head) → Each Low hs → Sees hs (mores nothing hs)
+pub mores_sees : (hs : List Head) → Sees hs (mores nothing hs)
 unfolding second_fault
-mores_sees hs l =
+mores_sees hs =
     record {
-      first_is = mores-first nothing hs ∙ marks_found hs l;
-      second_is = mores-second nothing hs l refl refl;
+      first_is = mores-first nothing hs ∙ marks_found hs;
+      second_is = mores-second nothing hs refl refl;
       free_is = mores-free nothing hs;
       touched_is = mores_touched nothing hs;
       totals_are = mores_totals nothing hs ∙ totals_same (λ k t. 0 + total_of t hs) (λ k t. total_of t hs) nothing.totals (λ k t. zero-add (total_of t hs));
     }
 
-pub mores-fault : (s : Seen) (hs : List Head) → ((mores s hs).fault ≡ s.fault) × ((mores s hs).place ≡ s.place)
+pub mores-fault : (s : Seen) (hs : List Head) → (mores s hs).fault ≡ s.fault
 unfolding mores
-mores-fault s [] = (refl, refl)
+mores-fault s [] = refl
 mores-fault s (h ∷ hs) = mores-fault (more s h) hs

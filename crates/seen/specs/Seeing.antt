@@ -1,6 +1,6 @@
 -- The walk with its state: at each clump the state still comes to what is seen of the whole walk, and a header that was read makes of it
 -- what the rules' clump does. By `Walking`, the state being a part of what is asked of the clumps that are left. Assumes nothing.
-use Rattle.std.specs.Prelude.{ℕ, ◌+◌, ◌<◌, ◌≤◌, ◌≡◌, refl, List, ◌∷◌}
+use Rattle.std.specs.Prelude.{ℕ, ◌+◌, ◌<◌, ◌≤◌, ◌≡◌, refl, List, ◌∷◌, IsSome, IsNone}
 use Rattle.std.proofs.Common.{sym, ap, ◌∙◌, arith}
 use Rattle.rules.specs.Words.{Mem}
 use Rattle.rules.specs.Pages.{clumps_at}
@@ -22,14 +22,14 @@ module _ (n : ℕ) (m : Mem) (s : Seen) (a : ℕ) where
   unfolding fault_of
   clump_short l = rw (size_short n (head m a) l)
 
-  pub clump_read : (c : Clump) (l : List (List ℕ)) → c.nbytes ≡ m a → c.state ≡ m (state_at a) → l ≡ list_at m a → takes (fault_in n l (head_of a c)) s (head_of a c) ≡ takes (fault_of n m (head m a)) s (head m a)
-  clump_read c l e f g =
-      let i : head_of a c ≡ head m a = λ j. record { at = a; nbytes = e j; state = f j } in
+  pub clump_read : (c : Clump) (l : List (List ℕ)) → c.at ≡ a → c.nbytes ≡ m a → c.state ≡ m (state_at a) → l ≡ list_at m a → takes (fault_in n l (head_of c)) s (head_of c) ≡ takes (fault_of n m (head m a)) s (head m a)
+  clump_read c l d e f g =
+      let i : head_of c ≡ head m a = λ j. record { at = d j; nbytes = e j; state = f j } in
       ap (λ (h : Head). takes (fault_in n l h) s h) i ∙ ap (λ (k : ℕ). takes k s (head m a)) (fault_held n m (head m a) l g)
 
 -- the walk has come to h without a fault, and s is what it has seen
 pub record Seeing (n : ℕ) (m : Mem) (h : ℕ) (s : Seen) : Type 0 where
-  pub sound : s.fault ≡ 0
+  pub sound : IsNone s.fault
   pub up_to : UpTo h s.totals
   pub walking : Walking (seen_from n m s) n m h (seen n m (walk n m))
 
@@ -46,12 +46,12 @@ module _ {n : ℕ} {m : Mem} {h : ℕ} {s : Seen} (w : Seeing n m h s) where
     step : (hs : List Head) → seen_from n m s (head m h ∷ hs) ≡ seen_from n m t hs
     step hs = seen_step n m s (head m h) hs w.sound ∙ ap (λ (x : Seen). seen_from n m x hs) (sym e)
 
-    pub seeing_stop : (t.fault ≡ 0 → ⊥) → t ≡ seen n m (walk n m)
+    pub seeing_stop : IsSome t.fault → t ≡ seen n m (walk n m)
     seeing_stop f = walking_hit w.walking l t (λ hs. step hs ∙ seen_stays n m t hs f)
 
-    module _ (z : t.fault ≡ 0) where
+    module _ (z : IsNone t.fault) where
       no_fault : fault_of n m (head m h) ≡ 0
-      no_fault = takes_sound (fault_of n m (head m h)) s (head m h) (ap (λ (x : Seen). x.fault) (sym e) ∙ z)
+      no_fault = takes_sound (fault_of n m (head m h)) s (head m h) (rw e at z)
 
       pub seeing_clump : Faultless n h m
       seeing_clump = faultless n h m no_fault

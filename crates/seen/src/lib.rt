@@ -14,127 +14,136 @@ pub mod header;
 use page::clump::Clump;
 use rules::Totals;
 
-// The first of the faults 1 to 3 and its place; the first unfinished clump and the second; whether a FREE clump came last, and whether
-// two touched; and the bytes in each state. 0 stands for no fault and for no clump. A walk ends at its first fault.
+// A fault of a pool: its number, 1 to 5, and the offset of the header of the clump at fault.
+#[derive(Clone, Copy, Debug, PartialEq, Eq)]
+pub struct Fault {
+    pub place: usize,
+    pub number: u64,
+}
+
+// The first of the faults 1 to 3, where a walk ends; the first unfinished clump and the second, by their offsets; whether a FREE clump came
+// last, and whether two touched; and the bytes in each state.
 #[derive(Clone, Copy)]
 pub struct Seen {
-    pub fault: u64,
-    pub place: usize,
-    pub first: usize,
-    pub second: usize,
+    pub fault: Option<Fault>,
+    pub first: Option<usize>,
+    pub second: Option<usize>,
     pub free: bool,
     pub touched: bool,
     pub totals: Totals,
 }
 
-// Before the first clump.
-pub fn start() -> Seen
-    ensures { result ≡ nothing }
+// The totals with one clump more, in one of the five states.
+fn add(t: Totals, c: Clump) -> Totals
+    requires up_to { UpTo c.at t }
+    requires nbytes_bound { c.at + c.nbytes < word_values }
+    requires state_bound { c.state ≤ FREEING }
+    ensures { result ≡ added t (head_of c) }
 {
-    Seen {
-        fault: 0,
-        place: 0,
-        first: 0,
-        second: 0,
-        free: false,
-        touched: false,
-        totals: Totals {
-            free: 0,
-            reserved: 0,
-            activating: 0,
-            active: 0,
-            freeing: 0,
+    match c.state {
+        Clump::FREE => Totals {
+            free: t.free + c.nbytes,
+            ..t
+        },
+        Clump::RESERVED => Totals {
+            reserved: t.reserved + c.nbytes,
+            ..t
+        },
+        Clump::ACTIVE => Totals {
+            active: t.active + c.nbytes,
+            ..t
+        },
+        Clump::ACTIVATING => Totals {
+            activating: t.activating + c.nbytes,
+            ..t
+        },
+        _ => Totals {
+            freeing: t.freeing + c.nbytes,
+            ..t
         },
     }
 }
 
-// With the clump at h at fault.
-pub fn fail(s: Seen, h: usize, fault: u64) -> Seen
-    ensures { result ≡ broken fault h s }
-{
-    let mut t = s;
-    t.fault = fault;
-    t.place = h;
-    t
-}
-
-// The totals with one clump more, in one of the five states.
-fn add(t: Totals, h: usize, c: Clump) -> Totals
-    requires up_to { UpTo h t }
-    requires nbytes_bound { h + c.nbytes < word_values }
-    requires state_bound { c.state ≤ FREEING }
-    ensures { result ≡ added t (head_of h c) }
-{
-    let mut k = t;
-    if c.state == Clump::FREE {
-        k.free = t.free + c.nbytes;
-        return k;
-    }
-    if c.state == Clump::RESERVED {
-        k.reserved = t.reserved + c.nbytes;
-        return k;
-    }
-    if c.state == Clump::ACTIVE {
-        k.active = t.active + c.nbytes;
-        return k;
-    }
-    if c.state == Clump::ACTIVATING {
-        k.activating = t.activating + c.nbytes;
-        return k;
-    }
-    k.freeing = t.freeing + c.nbytes;
-    k
-}
-
-// With one clump more, but for the totals.
-fn meet(s: Seen, h: usize, c: Clump) -> Seen
-    ensures { result ≡ met s (head_of h c) }
-{
-    let mut t = s;
-    if c.state == Clump::FREE {
-        if s.free {
-            t.touched = true;
+impl Seen {
+    // Before the first clump.
+    pub fn start() -> Seen
+        ensures { result ≡ nothing }
+    {
+        Seen {
+            fault: None,
+            first: None,
+            second: None,
+            free: false,
+            touched: false,
+            totals: Totals {
+                free: 0,
+                reserved: 0,
+                activating: 0,
+                active: 0,
+                freeing: 0,
+            },
         }
-        t.free = true;
-        return t;
     }
-    t.free = false;
-    if !header::pending(c.state) {
-        return t;
-    }
-    if s.first == 0 {
-        t.first = h;
-        return t;
-    }
-    if s.second == 0 {
-        t.second = h;
-    }
-    t
-}
 
-// With the clump at h, which has none of the faults 1 to 3.
-fn pass(s: Seen, h: usize, c: Clump) -> Seen
-    requires up_to { UpTo h s.totals }
-    requires nbytes_bound { h + c.nbytes < word_values }
-    requires state_bound { c.state ≤ FREEING }
-    ensures { result ≡ more s (head_of h c) }
-{
-    let k = s.totals;
-    let totals = add(k, h, c);
-    let mut t = meet(s, h, c);
-    t.totals = totals;
-    t
-}
-
-// With one clump more: its place, its header and its list.
-pub fn take(s: Seen, n: usize, h: usize, c: Clump, l: [[u64; 2]; 3]) -> Seen
-    requires h_le_n { h ≤ n }
-    requires up_to { UpTo h s.totals }
-    ensures { result ≡ takes (fault_in n l (head_of h c)) s (head_of h c) }
-{
-    let f = header::fault_of(n, h, c, l);
-    if f != 0 {
-        return fail(s, h, f);
+    // With a clump at fault.
+    pub fn fail(self, fault: Fault) -> Seen
+        ensures { result ≡ broken fault.number fault.place self }
+    {
+        Seen {
+            fault: Some(fault),
+            ..self
+        }
     }
-    pass(s, h, c)
+
+    // With one clump more, but for the totals.
+    fn meet(self, c: Clump) -> Seen
+        ensures { result ≡ met self (head_of c) }
+    {
+        let pending = header::pending(c.state);
+        let free = c.state == Clump::FREE;
+        Seen {
+            first: if pending {
+                self.first.or(Some(c.at))
+            } else {
+                self.first
+            },
+            second: if pending && self.first.is_some() {
+                self.second.or(Some(c.at))
+            } else {
+                self.second
+            },
+            free,
+            touched: free && self.free || self.touched,
+            ..self
+        }
+    }
+
+    // With one clump more, which has none of the faults 1 to 3.
+    fn pass(self, c: Clump) -> Seen
+        requires up_to { UpTo c.at self.totals }
+        requires nbytes_bound { c.at + c.nbytes < word_values }
+        requires state_bound { c.state ≤ FREEING }
+        ensures { result ≡ more self (head_of c) }
+    {
+        Seen {
+            totals: add(self.totals, c),
+            ..self.meet(c)
+        }
+    }
+
+    // With one clump more: its header and its list.
+    #[tactic(auto, using(crate::specs::Judging::fault_none))]
+    pub fn take(self, n: usize, c: Clump, l: [[u64; 2]; 3]) -> Seen
+        requires at_le_n { c.at ≤ n }
+        requires up_to { UpTo c.at self.totals }
+        ensures { result ≡ takes (fault_in n l (head_of c)) self (head_of c) }
+    {
+        match header::fault_of(n, c, l) {
+            Some(number) => self.fail(Fault {
+                place: c.at,
+                number,
+            }),
+            None => self.pass(c),
+        }
+    }
 }

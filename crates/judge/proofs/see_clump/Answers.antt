@@ -8,4 +8,6 @@ pub returns-then-n-h-lt-LEAST : goal.returns-then-n-h-lt-LEAST
 returns-then-n-h-lt-LEAST c = c.fail.ensures ∙ clump_short _ (mem c.args.img.now) _ _ (omega (arith, c.if-n-h-lt-LEAST.true))
 
 pub returns : goal.returns
-returns c = c.take.ensures ∙ clump_read _ _ c.args.s _ _ _ c.read-c.ensures.0 c.read-c.ensures.1 c.list-l.ensures
+returns c =
+    c.take.ensures
+    ∙ clump_read _ _ c.args.s _ _ _ c.read.ensures.at c.read.ensures.nbytes c.read.ensures.state c.list.ensures

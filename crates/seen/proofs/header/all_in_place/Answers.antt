@@ -1,20 +1,14 @@
--- `all_in_place`: an entry out of place ends it, one in place goes on to the rest, and with no entry left all are.
-use Rattle.std.proofs.Common.{rules, sym, ◌∙◌}
+-- `all_in_place`: the closure asks of each entry what the list's test does.
+use Rattle.std.proofs.Common.{rules, tests, ◌∙◌}
+use Rattle.std.proofs.lemmas.Iterator.{YieldsList-from_slice}
+use Rattle.std.proofs.lemmas.Iterator.Search.{all_from_yields_List}
 use Rattle.rules.specs.Sound.{in_place}
-use Rattle.page.specs.Slots.{passes_stop, passes_go, passes_end}
+use Rattle.page.specs.Forms.{entry_passes}
+use Rattle.page.specs.Slots.{passes_all}
 use Rattle.seen.proofs.header.all_in_place.Goals as goal
 
-pub returns-then-not-entry_in_place : goal.returns-then-not-entry_in_place
-returns-then-not-entry_in_place c =
-    passes_stop (in_place _) _ c.loop-i.i (search rules) c.loop-i.invariant.1
-    (sym c.entry_in_place.ensures ∙ c.if-not-entry_in_place.true)
-
-pub loop-i-preserved : goal.loop-i-preserved
-loop-i-preserved c = (
-  search rules,
-  passes_go (in_place _) _ c.loop-i.i (search rules) c.loop-i.invariant.1
-      (sym c.entry_in_place.ensures ∙ c.if-not-entry_in_place.false),
-)
-
 pub returns : goal.returns
-returns c = passes_end (in_place _) _ c.loop-i.i (search rules) c.loop-i.invariant.1
+returns c =
+    all_from_yields_List (entry_passes (in_place c.args.n)) _ _ _ c.all.ensures.ran
+    (YieldsList-from_slice c.args.l cc) (λ x b q k. search (rules, tests))
+    ∙ passes_all _ c.args.l

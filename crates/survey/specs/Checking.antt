@@ -1,15 +1,16 @@
 -- The contracts of check and of the tests 1 and 2, and the laws of the survey and of check. Assumes nothing.
-use Rattle.std.specs.Prelude.{ℕ, Bool, cond, not, ◌||◌, [], eqb, length, Ok, Err}
+use Rattle.std.specs.Prelude.{ℕ, Bool, cond, not, ◌||◌, [], length, Ok, Err, Some, None, is_some}
 use Rattle.std.proofs.Math.Path.{◌≡◌, refl, sym}
-use Rattle.std.proofs.Common.{ap, ◌∙◌, arith, eq-eqb, ne_eqb}
+use Rattle.std.proofs.Common.{ap, ◌∙◌}
 use Rattle.std.proofs.Math.Bool.{true, false}
+use Rattle.std.proofs.lemmas.Option.{none-some, same_Some}
 use Rattle.std.proofs.Math.Option.{Option, some, none}
 use Rattle.rules.specs.declared.Answer.{Answer}
 use Rattle.rules.specs.declared.Request.TheVariants.{Check}
 use Rattle.rules.specs.Lists.{seek}
 use Rattle.rules.specs.Words.{Image, Mem, mem}
 use Rattle.rules.specs.Pages.{is_pool}
-use Rattle.rules.specs.Clumps.{is_pending, offset_of, walk}
+use Rattle.rules.specs.Clumps.{is_pending, walk}
 use Rattle.rules.specs.Sound.{Fault, judge, unsettled}
 use Rattle.rules.specs.Answers.{granted, test, test_fault, not_pool, not_settled, if_sound, if_settled, answer_of, totals_for}
 use Rattle.rules.specs.Requests.{verdict, answer_on, totals_on}
@@ -18,8 +19,8 @@ use Rattle.laws.specs.Pools.{answer_is, granted_none, Sound, check_sound}
 use Rattle.answer.specs.declared.Refusal.{Refusal}
 use Rattle.answer.specs.declared.Refusal.TheVariants.{NotAPool, NotSound}
 use Rattle.answer.specs.Refusals.{refusal_is, answer_in, ok_done, refusal_not_done}
-use Rattle.judge.specs.Forms.{judged_of}
-use Rattle.judge.specs.declared.Judged.TheVariants.{Fault as Broken}
+use Rattle.seen.specs.Forms.{judged_of, offset_in}
+use Rattle.seen.specs.declared.Fault.{Fault as Broken}
 use Rattle.seen.specs.declared.Seen.{Seen}
 use Rattle.seen.specs.States.{nothing, seen}
 use Rattle.seen.specs.Told.{told_sound, told-first, told-unsettled, told_totals}
@@ -43,28 +44,17 @@ module _ (img : Image) (s : Seen) where
   surveys_no_pool p f = record { answered = λ fuse. rw p; seen_is = rw p f }
 
   module _ (pool : is_pool (length img) (mem img) ≡ true) (sees : s ≡ seen (length img) (mem img) (clumps_of img)) where
-    pub surveys_fault : (p k : ℕ) → Broken p k ≡ judged_of (judge (length img) (mem img)) → Surveys img (record { tests = Err (NotSound p k); seen = s })
+    pub surveys_fault : (f : Broken) → Some f ≡ judged_of (judge (length img) (mem img)) → Surveys img (record { tests = Err (NotSound f.place f.number); seen = s })
     unfolding answer_of if_sound
-    surveys_fault p k e = record { answered = λ fuse. rw pool (go (judge (length img) (mem img)) e fuse); seen_is = rw pool sees }
+    surveys_fault f e = record { answered = λ fuse. rw pool (go (judge (length img) (mem img)) e fuse); seen_is = rw pool sees }
       where
-        go : (o : Option Fault) → Broken p k ≡ judged_of o → (fuse : ℕ) → answer_is 2 p k ≡ answer_of fuse (test_fault o (granted 0 []))
-        go none f fuse = absurd (let z : ◌≡◌ {A = ℕ} 0 1 = cc in omega arith)
-        go (some x) f fuse =
-            let a : p ≡ x.place = (cc) in
-            let b : k ≡ x.number = (cc) in
-            rw (a, b)
+        go : (o : Option Fault) → Some f ≡ judged_of o → (fuse : ℕ) → answer_is 2 f.place f.number ≡ answer_of fuse (test_fault o (granted 0 []))
+        go none i fuse = absurd (none-some f (sym i))
+        go (some x) i fuse = rw (same_Some f _ i)
 
     pub surveys_done : {x : Unit {0}} → judge (length img) (mem img) ≡ none → Surveys img (record { tests = Ok x; seen = s })
     unfolding if_sound
     surveys_done e = record { answered = λ fuse. rw (pool, e) (granted_none 0 fuse); seen_is = rw pool sees }
-
--- whether the state is unsettled: an unfinished clump, or none
-module _ (s : Seen) where
-  pub unsettled_pending : (s.first ≡ 0 → ⊥) → true ≡ (not (eqb s.first 0) || s.touched)
-  unsettled_pending f = rw (ne_eqb s.first 0 f)
-
-  pub unsettled_touched : s.first ≡ 0 → s.touched ≡ (not (eqb s.first 0) || s.touched)
-  unsettled_touched e = rw (eq-eqb s.first 0 e)
 
 -- the tests 1, 2 and 3, by the answer to the first two
 module _ (n : ℕ) (m : Mem) (r : Answer) (e : (fuse : ℕ) → r ≡ answer_of fuse (if_sound n m (granted 0 []))) where
@@ -99,14 +89,14 @@ module _ {img : Image} {r : Surveyed} (v : Surveys img r) {x : Unit {0}} (z : r.
   pub surveyed_seen : r.seen ≡ seen (length img) (mem img) (clumps_of img)
   surveyed_seen = v.seen_is ∙ rw surveyed_sound.pool
 
-  pub surveyed_fault : r.seen.fault ≡ 0
+  pub surveyed_fault : r.seen.fault ≡ None
   surveyed_fault = told_sound (length img) (mem img) r.seen surveyed_seen surveyed_sound.sound
 
-  -- the unfinished clump, 0 for none
-  pub surveyed_first : r.seen.first ≡ offset_of 0 (seek is_pending (clumps_of img))
+  -- the unfinished clump
+  pub surveyed_first : r.seen.first ≡ offset_in (seek is_pending (clumps_of img))
   surveyed_first = told-first (length img) (mem img) r.seen surveyed_seen surveyed_fault
 
-  pub surveyed_unsettled : unsettled (clumps_of img) ≡ (not (eqb r.seen.first 0) || r.seen.touched)
+  pub surveyed_unsettled : unsettled (clumps_of img) ≡ (is_some r.seen.first || r.seen.touched)
   surveyed_unsettled = told-unsettled (length img) (mem img) r.seen surveyed_seen surveyed_fault
 
 -- check, refused and accepted

@@ -2,14 +2,13 @@
 // targets of an unfinished clump.
 #![tactic(auto)]
 
-ghost use Rattle.std.specs.Prelude.{◌≡◌, not, ◌||◌, [], ℕ, length, eqb};
+ghost use Rattle.std.specs.Prelude.{◌≡◌, ◌||◌, [], ℕ, length, is_some};
 ghost use Rattle.rules.specs.Words.{mem};
 ghost use Rattle.rules.specs.Answers.{granted, if_settled, answer_of};
 ghost use Rattle.answer.specs.Refusals.{answer_in};
 ghost use Rattle.survey.specs.Checking.{Surveys, Checks};
 
 use answer::Refusal;
-use judge::Judged;
 use rules::{Answer, Totals};
 use seen::Seen;
 
@@ -27,25 +26,25 @@ pub fn sound(img: &[u8]) -> Surveyed
     if !page::is_pool(img) {
         return Surveyed {
             tests: Err(Refusal::NotAPool),
-            seen: seen::start(),
+            seen: Seen::start(),
         };
     }
     let seen = judge::see(img);
     let tests = match judge::judge(img, seen) {
-        Judged::Sound => Ok(()),
-        Judged::Fault { place, fault } => Err(Refusal::NotSound { place, fault }),
+        None => Ok(()),
+        Some(fault) => Err(Refusal::NotSound {
+            place: fault.place as u64,
+            fault: fault.number,
+        }),
     };
     Surveyed { tests, seen }
 }
 
 // Whether a clump is unfinished or two FREE clumps touch.
 fn is_unsettled(s: Seen) -> bool
-    ensures { result ≡ (not (eqb s.first 0) || s.touched) }
+    ensures { result ≡ (is_some s.first || s.touched) }
 {
-    if s.first != 0 {
-        return true;
-    }
-    s.touched
+    s.first.is_some() || s.touched
 }
 
 // The tests 1, 2 and 3, which every request but create, check and recover begins with.

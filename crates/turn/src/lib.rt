@@ -10,43 +10,42 @@ ghost use Rattle.rules.specs.Requests.{activate, Does};
 ghost use Rattle.rules.specs.Reading.{clumps_of, Tiled};
 ghost use Rattle.steps.specs.Acts.{Acts};
 
+use answer::Refusal;
 use page::clump::Clump;
 use page::entry;
 use rules::Answer;
-use walk::Found;
-use word::Power;
+use word::Fuse;
 
 // Activate, in the clump at h.
 fn activate_at(img: &mut [u8], h: usize, offset: u64, fuse: u64) -> Answer
     requires tiled { Tiled img.old }
-    requires header_bytes_in_bounds { h + header_bytes ≤ length img.old }
-    requires word_bytes_value { h % word_bytes ≡ 0 }
+    requires in_image { h + header_bytes ≤ length img.old }
+    requires aligned { h % word_bytes ≡ 0 }
     ensures { Acts img.old (activate (mem img.old) (clumps_of img.old) offset (head (mem img.old) h)) fuse img.new result }
 {
     let c = Clump::read(img, h);
     if c.state != Clump::RESERVED {
-        return answer::refusal(Answer::WRONG_STATE);
+        return Answer::from(Refusal::WrongState);
     }
     let l = Clump::list(img, h);
     let due = entry::unmarked(l);
     if !walk::all_valid(img, due) {
-        return answer::refusal(Answer::BAD_TARGET);
+        return Answer::from(Refusal::BadTarget);
     }
-    let p = Power::new(fuse);
-    let p1 = word::store(img, p, h + 8, Clump::ACTIVATING);
-    let p2 = steps::finish_activating(img, p1, h, due);
-    answer::finish(p2, offset)
+    let mut p = Fuse::new(fuse);
+    p.store(img, h + 8, Clump::ACTIVATING);
+    steps::finish_activating(img, &mut p, h, due);
+    answer::finish(p.power, offset)
 }
 
 pub fn activate(img: &mut [u8], offset: u64, fuse: u64) -> Answer
     ensures { Does img.old (Activate offset) fuse img.new result }
 {
-    let a = survey::survey(img);
-    if a.answer != Answer::DONE {
-        return a;
+    if let Err(refusal) = survey::survey(img) {
+        return Answer::from(refusal);
     }
-    let Found::At(h, _) = walk::find(img, offset) else {
-        return answer::refusal(Answer::NO_CLUMP);
+    let Some(found) = walk::find(img, offset) else {
+        return Answer::from(Refusal::NoClump);
     };
-    activate_at(img, h, offset, fuse)
+    activate_at(img, found.at, offset, fuse)
 }

@@ -12,13 +12,12 @@ use answer::Refusal;
 use page::clump::Clump;
 use page::entry;
 use rules::Answer;
-use walk::Found;
-use word::Power;
+use word::Fuse;
 
 // The last used entry of the clump at h emptied.
 fn withdraw_at(img: &mut [u8], h: usize, offset: u64, fuse: u64) -> Answer
-    requires header_bytes_in_bounds { h + header_bytes ≤ length img.old }
-    requires word_bytes_value { h % word_bytes ≡ 0 }
+    requires in_image { h + header_bytes ≤ length img.old }
+    requires aligned { h % word_bytes ≡ 0 }
     ensures { Acts img.old (withdraw (mem img.old) offset (head (mem img.old) h)) fuse img.new result }
 {
     let c = Clump::read(img, h);
@@ -30,9 +29,9 @@ fn withdraw_at(img: &mut [u8], h: usize, offset: u64, fuse: u64) -> Answer
     if k == 0 {
         return Answer::from(Refusal::ListEmpty);
     }
-    let p = Power::new(fuse);
-    let p1 = word::store(img, p, h + 16 * k, 0);
-    answer::finish(p1, offset)
+    let mut p = Fuse::new(fuse);
+    p.store(img, h + 16 * k, 0);
+    answer::finish(p.power, offset)
 }
 
 pub fn withdraw(img: &mut [u8], offset: u64, fuse: u64) -> Answer
@@ -41,8 +40,8 @@ pub fn withdraw(img: &mut [u8], offset: u64, fuse: u64) -> Answer
     if let Err(refusal) = survey::survey(img) {
         return Answer::from(refusal);
     }
-    let Found::At(h, _) = walk::find(img, offset) else {
+    let Some(found) = walk::find(img, offset) else {
         return Answer::from(Refusal::NoClump);
     };
-    withdraw_at(img, h, offset, fuse)
+    withdraw_at(img, found.at, offset, fuse)
 }

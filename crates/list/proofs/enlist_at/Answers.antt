@@ -13,7 +13,7 @@ pub returns-then-not-allowed : goal.returns-then-not-allowed
 returns-then-not-allowed c =
     let a = c.args in
     let m = mem a.img.now in
-    rw c.refusal.ensures
+    rw c.from.ensures
     (acts_same _ _
     (enlist_state m (clumps_of a.img.now) a.allowed a.offset a.target (a.target + a.mark) a.value (head m a.h) c.if-not-allowed.true)
     (acts_refused _ _ _ _ _))
@@ -22,7 +22,7 @@ pub returns-then-k-eq3 : goal.returns-then-k-eq3
 returns-then-k-eq3 c =
     let a = c.args in
     let m = mem a.img.now in
-    rw c.refusal-then-k-eq3.ensures
+    rw c.from-then-k-eq3.ensures
     (acts_same _ _
     (enlist-full m (clumps_of a.img.now) a.allowed a.offset a.target (a.target + a.mark) a.value (head m a.h) c.if-not-allowed.false _
     (open_is m a.h _ _ c.list-l.ensures c.reach-k.ensures)
@@ -33,7 +33,7 @@ pub returns-then-not-valid : goal.returns-then-not-valid
 returns-then-not-valid c =
     let a = c.args in
     let m = mem a.img.now in
-    rw c.refusal-then-not-valid.ensures
+    rw c.from-then-not-valid.ensures
     (acts_same _ _
     (enlist-bad m (clumps_of a.img.now) a.allowed a.offset a.target (a.target + a.mark) a.value (head m a.h) c.if-not-allowed.false _
     (open_is m a.h _ _ c.list-l.ensures c.reach-k.ensures)
@@ -44,7 +44,7 @@ returns-then-not-valid c =
 pub overflow_add-stored : goal.overflow_add-stored
 overflow_add-stored c =
     let v = valid_in _ _ c.args.target c.requires.tiled (sym c.valid.ensures ∙ c.if-not-valid.false) in
-    omega (arith, v, c.requires.mark_lt_bit_values)
+    omega (arith, v, c.requires.one_bit)
 
 pub returns : goal.returns
 returns c =
@@ -55,4 +55,4 @@ returns c =
     (open_is m a.h _ _ c.list-l.ensures c.reach-k.ensures)
     c.if-k-eq3.false
     (sym c.valid.ensures ∙ c.if-not-valid.false))
-    (acts_ran _ _ (ran_then (rw c.new-p.ensures at c.store-p1.ensures) c.store-p2.ensures) c.finish.ensures)
+    (acts_ran _ _ (ran_then (rw c.new-p.ensures at c.store.ensures) c.store-2.ensures) c.finish.ensures)

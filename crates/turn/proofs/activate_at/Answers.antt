@@ -14,26 +14,26 @@ use Rattle.turn.proofs.activate_at.Goals as goal
 pub returns-then-c-ne-RESERVED : goal.returns-then-c-ne-RESERVED
 returns-then-c-ne-RESERVED c =
     let m = mem c.args.img.now in
-    rw c.refusal.ensures
+    rw c.from.ensures
     (acts_same _ _
     (activate_state m (clumps_of c.args.img.now) c.args.offset (head m c.args.h)
-    (let x = c.read-c.ensures.1 in cc (ne_eqb c.read-c.result.state 1 c.if-c-ne-RESERVED.true)))
+    (let x = c.read-c.ensures.state in cc (ne_eqb c.read-c.result.state 1 c.if-c-ne-RESERVED.true)))
     (acts_refused _ _ _ _ _))
 
 pub returns-then-not-all_valid : goal.returns-then-not-all_valid
 returns-then-not-all_valid c =
     let m = mem c.args.img.now in
     let e = c.unmarked-due.ensures ∙ ap (only_in unmarked) c.list-l.ensures in
-    rw c.refusal-then-not-all_valid.ensures
+    rw c.from-then-not-all_valid.ensures
     (acts_same _ _
     (activate-bad m (clumps_of c.args.img.now) c.args.offset (head m c.args.h)
-    (let x = c.read-c.ensures.1 in cc (eq-eqb c.read-c.result.state 1 c.if-c-ne-RESERVED.false))
+    (let x = c.read-c.ensures.state in cc (eq-eqb c.read-c.result.state 1 c.if-c-ne-RESERVED.false))
     (sym (list_valid_lem unmarked chooses_unmarked m _ c.args.h _ e) ∙ sym c.all_valid.ensures ∙ c.if-not-all_valid.true))
     (acts_refused _ _ _ _ _))
 
-pub finish_activating-p2-requires-clause-in_image : goal.finish_activating-p2-requires-clause-in_image
-finish_activating-p2-requires-clause-in_image c =
-    rw c.store-p1.ensures.long (list_in _ _ _ c.requires.tiled (sym c.all_valid.ensures ∙ c.if-not-all_valid.false))
+pub finish_activating-requires-clause-targets_in_image : goal.finish_activating-requires-clause-targets_in_image
+finish_activating-requires-clause-targets_in_image c =
+    rw c.store.ensures.long (list_in _ _ _ c.requires.tiled (sym c.all_valid.ensures ∙ c.if-not-all_valid.false))
 
 pub returns : goal.returns
 returns c =
@@ -41,8 +41,8 @@ returns c =
     let e = c.unmarked-due.ensures ∙ ap (only_in unmarked) c.list-l.ensures in
     acts_same _ _
     (activate-done m (clumps_of c.args.img.now) c.args.offset (head m c.args.h)
-    (let x = c.read-c.ensures.1 in cc (eq-eqb c.read-c.result.state 1 c.if-c-ne-RESERVED.false))
+    (let x = c.read-c.ensures.state in cc (eq-eqb c.read-c.result.state 1 c.if-c-ne-RESERVED.false))
     (sym (list_valid_lem unmarked chooses_unmarked m _ c.args.h _ e) ∙ sym c.all_valid.ensures ∙ c.if-not-all_valid.false)
     _
     e)
-    (acts_ran _ _ (ran_then (rw c.new-p.ensures at c.store-p1.ensures) c.finish_activating-p2.ensures) c.finish.ensures)
+    (acts_ran _ _ (ran_then (rw c.new-p.ensures at c.store.ensures) c.finish_activating.ensures) c.finish.ensures)

@@ -30,14 +30,14 @@ returns-in_default-find c =
     refl
     (found_none _ _ _ (settled_tiles c.args.img.now _ c.in_default.ensures refl) _ c.find.ensures c.in_default-find.is))
 
-pub withdraw_at-requires-clause-header_bytes_in_bounds : goal.withdraw_at-requires-clause-header_bytes_in_bounds
-withdraw_at-requires-clause-header_bytes_in_bounds c =
-    let i = (found_some _ _ _ (settled_tiles c.args.img.now _ c.in_default.ensures refl) _ c.find.ensures _ _ c.in-At.is).inside in
+pub withdraw_at-requires-clause-in_image : goal.withdraw_at-requires-clause-in_image
+withdraw_at-requires-clause-in_image c =
+    let i = (found_some _ _ _ (settled_tiles c.args.img.now _ c.in_default.ensures refl) _ c.find.ensures _ c.in-Some.is).inside in
     omega arith
 
-pub withdraw_at-requires-clause-word_bytes_value : goal.withdraw_at-requires-clause-word_bytes_value
-withdraw_at-requires-clause-word_bytes_value c =
-    let i = (found_some _ _ _ (settled_tiles c.args.img.now _ c.in_default.ensures refl) _ c.find.ensures _ _ c.in-At.is).inside in
+pub withdraw_at-requires-clause-aligned : goal.withdraw_at-requires-clause-aligned
+withdraw_at-requires-clause-aligned c =
+    let i = (found_some _ _ _ (settled_tiles c.args.img.now _ c.in_default.ensures refl) _ c.find.ensures _ c.in-Some.is).inside in
     omega arith
 
 pub returns : goal.returns
@@ -47,5 +47,5 @@ returns c =
     refl
     refl
     _
-    (found_some _ _ _ (settled_tiles c.args.img.now _ c.in_default.ensures refl) _ c.find.ensures _ _ c.in-At.is).found
+    (found_some _ _ _ (settled_tiles c.args.img.now _ c.in_default.ensures refl) _ c.find.ensures _ c.in-Some.is).found
     c.withdraw_at.ensures

@@ -34,7 +34,7 @@ last [] = none
 last (k ∷ []) = some k
 last (k ∷ j ∷ p) = last (j ∷ p)
 
-last_more : (p : List Head) (k : Head) → last (p ++ (k ∷ [])) ≡ some k
+pub last_more : (p : List Head) (k : Head) → last (p ++ (k ∷ [])) ≡ some k
 unfolding last
 last_more [] k = refl
 last_more (j ∷ []) k = refl

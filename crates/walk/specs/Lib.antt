@@ -2,3 +2,4 @@
 pub mod Forms
 pub mod Scans
 pub mod Beside
+pub mod Left

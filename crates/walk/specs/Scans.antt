@@ -1,4 +1,4 @@
--- Laws of the searches over the clumps: a word in a part without a sum, what the offset or the enum of a search tells in clumps that
+-- Laws of the searches over the clumps: a word in a part without a sum, what the offset or the answer of a search tells in clumps that
 -- tile, and the targets of a list that was read. Assumes nothing.
 use Rattle.std.specs.Prelude as code
 use Rattle.std.specs.Prelude.{Some, None, ℕ, zero, suc, ◌+◌, ◌-◌, ◌<◌, ◌≤◌, ◌≡◌, refl, List, [], ◌∷◌, Bool, true, false, ◌||◌, get_or, leb, eqb}

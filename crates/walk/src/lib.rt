@@ -1,10 +1,10 @@
 // Searches over the clumps of an image, and the bytes of one that is FREE. Each search asks that the clumps tile, as they do in every image
-// that is judged sound: it may be called once `judge` has found no fault.
+// that is judged sound: it may be called once `judge` has found no fault. `clumps` has the clumps of an image one after the other.
 #![tactic(auto)]
 
 ghost use Rattle.std.specs.Prelude.{◌≡◌, ◌||◌, ◌+◌, ◌%◌, ◌≤◌, ◌<◌, length, eqb};
 ghost use Rattle.rules.specs.Lists.{seek, any};
-ghost use Rattle.rules.specs.Words.{word_bytes, word_values, mem};
+ghost use Rattle.rules.specs.Words.{word_bytes, mem};
 ghost use Rattle.rules.specs.Clumps.{header_bytes, target_of, offset_of};
 ghost use Rattle.rules.specs.Sound.{lies, holds_word, is_valid};
 ghost use Rattle.rules.specs.Stores.{need_of, fits};
@@ -14,6 +14,9 @@ ghost use Rattle.page.specs.Forms.{head_of};
 ghost use Rattle.walk.specs.Forms.{found_of, list_valid};
 ghost use Rattle.walk.specs.Beside.{free_bytes};
 
+mod clumps;
+
+use crate::clumps::Clumps;
 use page::clump::Clump;
 use page::{CLUMPS_AT, STATIC_AT, STATIC_END, entry};
 
@@ -29,15 +32,12 @@ pub fn find(img: &[u8], body: u64) -> Option<Found>
     requires { Tiled img.now }
     ensures { result ≡ found_of (finding (clumps_of img.now) body) }
 {
-    let mut below: usize = 0;
-    let mut h: usize = CLUMPS_AT;
-    while h < img.len() {
-        if h as u64 + Clump::HEADER == body {
-            return Some(Found { at: h, below });
+    let mut below = 0;
+    for c in Clumps::of(img) {
+        if c.at as u64 + Clump::HEADER == body {
+            return Some(Found { at: c.at, below });
         }
-        let c = Clump::read(img, h);
-        below = h;
-        h += c.nbytes as usize;
+        below = c.at;
     }
     None
 }
@@ -73,29 +73,19 @@ pub fn word_lies(a: u64, b: u64, t: u64) -> bool
     (a..b).contains(&t) && 8 <= b - t
 }
 
-// Whether the word at t lies in the body of the clump, and the clump is live.
+// Whether the word at t lies in the body of the clump, and the clump is live. No sum is made: it is asked of the word's offset in the clump.
 fn holds(c: Clump, t: u64) -> bool
-    requires end_fits { c.at + c.nbytes < word_values }
-    requires body_fits { c.at + header_bytes < word_values }
     ensures { result ≡ holds_word t (head_of c) }
 {
     let at = c.at as u64;
-    c.state != Clump::FREE && word_lies(at + Clump::HEADER, at + c.nbytes, t)
+    c.state != Clump::FREE && at <= t && word_lies(Clump::HEADER, c.nbytes, t - at)
 }
 
 fn in_body(img: &[u8], t: u64) -> bool
     requires { Tiled img.now }
     ensures { result ≡ any (holds_word t) (clumps_of img.now) }
 {
-    let mut h: usize = CLUMPS_AT;
-    while h < img.len() {
-        let c = Clump::read(img, h);
-        if holds(c, t) {
-            return true;
-        }
-        h += c.nbytes as usize;
-    }
-    false
+    Clumps::of(img).any(|c| holds(c, t))
 }
 
 // Whether a target is valid now.

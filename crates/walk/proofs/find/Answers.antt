@@ -1,41 +1,23 @@
--- `find`: each way out and each step by a law of the walk, and one of the clump that it has passed.
-use Rattle.std.proofs.Common.{arith, sym, ◌∙◌, eq-eqb, ne_eqb}
-use Rattle.rules.specs.Requests.{finder}
-use Rattle.rules.specs.Reading.{clumps_of}
-use Rattle.laws.specs.Searches.{seek_nil, seek_hit, seek_pass}
-use Rattle.laws.specs.Walking.{walking_start, walking_end, walking_hit, walking_move, walking_inside}
-use Rattle.laws.specs.Neighbours.{passed_start, passed_move, passed_below}
+-- `find`: the clump that comes is the first of those that were left; each way out and each step by a law of the search.
+use Rattle.std.proofs.Common.{arith}
+use Rattle.walk.specs.Left.{sought_start, sought_end, sought_hit, sought_pass, sought_room, sought_below}
 use Rattle.walk.specs.Scans.{found_end, found_hit}
 use Rattle.walk.proofs.find.Goals as goal
 
-pub loop-h-init : goal.loop-h-init
-loop-h-init c = (walking_start (λ hs. finder hs _) _ _, passed_start _ _)
+pub loop-c-init : goal.loop-c-init
+loop-c-init c =
+    rw c.into_iter-c-iterator.ensures.into_iter_gives (c.of-c-items.ensures.tile, tt, rw c.of-c-items.ensures.all (sought_start _ _))
+
+pub overflow_add-c : goal.overflow_add-c
+overflow_add-c c = let r = sought_room c.loop-c.invariant.2 _ _ c.in-Some.ensures.steps _ c.requires in omega arith
+
+pub returns-then-c-body : goal.returns-then-c-body
+returns-then-c-body c =
+    found_hit _ _ _ _ (sought_hit c.loop-c.invariant.2 _ _ c.in-Some.ensures.steps c.if-c-body.true)
+    (sought_below c.loop-c.invariant.2 _ _ c.in-Some.ensures.steps _ c.requires)
+
+pub loop-c-preserved : goal.loop-c-preserved
+loop-c-preserved c = (c.in-Some.ensures.goes.keeps, tt, sought_pass c.loop-c.invariant.2 _ _ c.in-Some.ensures.steps c.if-c-body.false)
 
 pub returns : goal.returns
-returns c = found_end (clumps_of c.args.img.now) _ (sym (seek_nil _) ∙ walking_end c.loop-h.invariant.0 c.loop-h-test.false)
-
-pub returns-then-h-body : goal.returns-then-h-body
-returns-then-h-body c =
-    found_hit (clumps_of c.args.img.now) _ _ _
-    (walking_hit c.loop-h.invariant.0 c.loop-h-test.true _ (λ t. seek_hit _ _ t (eq-eqb _ _ c.if-h-body.true)))
-    (passed_below c.loop-h.invariant.1 c.loop-h-test.true c.requires)
-
-pub read-c-requires-clause-in_image : goal.read-c-requires-clause-in_image
-read-c-requires-clause-in_image c =
-    let i = walking_inside c.loop-h.invariant.0 c.loop-h-test.true c.requires in omega arith
-
-pub overflow_add-h-in-loop-h : goal.overflow_add-h-in-loop-h
-overflow_add-h-in-loop-h c =
-    let i = walking_inside c.loop-h.invariant.0 c.loop-h-test.true c.requires in omega (arith, c.read-c.ensures.nbytes)
-
-pub loop-h-smaller : goal.loop-h-smaller
-loop-h-smaller c =
-    let i = walking_inside c.loop-h.invariant.0 c.loop-h-test.true c.requires in omega (arith, c.read-c.ensures.nbytes)
-
-pub loop-h-preserved : goal.loop-h-preserved
-loop-h-preserved c =
-    let i = walking_inside c.loop-h.invariant.0 c.loop-h-test.true c.requires in
-    rw c.read-c.ensures.nbytes (
-      walking_move c.loop-h.invariant.0 c.loop-h-test.true (omega arith) i.whole _ (λ t. seek_pass _ _ t (ne_eqb _ _ c.if-h-body.false)),
-      passed_move c.loop-h.invariant.1 c.loop-h-test.true (omega arith),
-    )
+returns c = found_end _ _ (sought_end c.loop-c.invariant.2 c.in-None.ensures.steps.0)

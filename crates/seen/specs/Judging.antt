@@ -6,7 +6,7 @@ use Rattle.std.proofs.Common.{sym, ap, ◌∙◌, arith}
 use Rattle.std.proofs.Math.Bool.{true, false, or-true}
 use Rattle.std.proofs.Math.Decide.{dec_lt}
 use Rattle.std.proofs.Math.Dec.{ltb}
-use borrow.Author.Tests.{lt-ltb, ltb-false}
+use borrow.Author.Tests.{lt-ltb, le-ltb, ltb-false, eq-eqb, ne_eqb}
 use Rattle.rules.specs.Lists.{those, any, all}
 use Rattle.rules.specs.Words.{Mem}
 use Rattle.rules.specs.Pages.{unit}
@@ -86,3 +86,43 @@ fault_held n m h l e = rw (e, bad_held n m h)
 -- whether the list of a clump waits, by the state that was read
 pub waits_is : (state s : ℕ) (w : Bool) → s ≡ state → w ≡ (eqb s RESERVED || eqb s ACTIVE) → (eqb state RESERVED || eqb state ACTIVE) ≡ w
 waits_is state s w e f = rw (← e) (sym f)
+
+-- laws that no proof cites now; they stand as they were stated. A state that is one of two
+module _ (s a b : ℕ) where
+  pub state_first : s ≡ a → true ≡ (eqb s a || eqb s b)
+  state_first e = rw (eq-eqb s a e)
+
+  pub state_second : (s ≡ a → ⊥) → eqb s b ≡ (eqb s a || eqb s b)
+  state_second f = rw (ne_eqb s a f)
+
+-- fault 1, a law for each way out of its tests
+module _ (n : ℕ) (h : Head) where
+  pub size_odd : (h.nbytes % unit ≡ 0 → ⊥) → true ≡ size_bad n h
+  unfolding size_bad
+  size_odd f = rw (ne_eqb (h.nbytes % unit) 0 f)
+
+  pub size_small : h.nbytes < least_clump → true ≡ size_bad n h
+  unfolding size_bad
+  size_small l = rw (lt-ltb h.nbytes least_clump l, or-true)
+
+  pub size_room : h.nbytes % unit ≡ 0 → least_clump ≤ h.nbytes → h.at ≤ n → ltb (n - h.at) h.nbytes ≡ size_bad n h
+  unfolding size_bad
+  size_room f l u =
+      rw (eq-eqb (h.nbytes % unit) 0 f, le-ltb h.nbytes least_clump l)
+      (ltb_same (n - h.at) h.nbytes n (h.at + h.nbytes) (λ k. omega arith) (λ k. omega arith))
+
+-- the faults 1 to 3 of a clump, a law for each way out
+module _ (n : ℕ) (l : List (List ℕ)) (h : Head) where
+  pub fault_size : size_bad n h ≡ true → 1 ≡ fault_in n l h
+  unfolding fault_in
+  fault_size e = rw e
+
+  module _ (size : size_bad n h ≡ false) where
+    pub fault_state : FREEING < h.state → 2 ≡ fault_in n l h
+    unfolding fault_in state_bad
+    fault_state u = rw (size, lt-ltb FREEING h.state u)
+
+    module _ (state : h.state ≤ FREEING) where
+      pub fault_list : (b : Bool) → b ≡ list_bad_in n h.state l → cond b 3 0 ≡ fault_in n l h
+      unfolding fault_in state_bad
+      fault_list b f = rw (size, le-ltb FREEING h.state state, ← f)

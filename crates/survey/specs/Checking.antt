@@ -1,5 +1,5 @@
 -- The contracts of check and of the tests 1 and 2, and the laws of the survey and of check. Assumes nothing.
-use Rattle.std.specs.Prelude.{ℕ, Bool, cond, not, ◌||◌, [], length, Result, Ok, Err, Some, None, is_some}
+use Rattle.std.specs.Prelude.{ℕ, Bool, cond, not, ◌||◌, [], length, Result, Ok, Err, Option as Maybe, Some, None, is_some}
 use Rattle.std.proofs.Math.Path.{◌≡◌, refl, sym}
 use Rattle.std.proofs.Common.{ap, ◌∙◌}
 use Rattle.std.proofs.Math.Bool.{true, false}
@@ -55,6 +55,18 @@ module _ (img : Image) (s : Seen) where
     pub surveys_done : {x : Unit {0}} → judge (length img) (mem img) ≡ none → Surveys img (record { tests = Ok x; seen = s })
     unfolding if_sound
     surveys_done e = record { answered = λ fuse. rw (pool, e) (granted_none 0 fuse); seen_is = rw pool sees }
+
+-- whether the state is unsettled: an unfinished clump, or none. No proof cites these now; they stand as they were stated, of an Option
+module _ (s : Seen) where
+  pub unsettled_pending : (s.first ≡ None → ⊥) → true ≡ (is_some s.first || s.touched)
+  unsettled_pending f = go s.first refl
+    where
+      go : (o : Maybe ℕ) → s.first ≡ o → true ≡ (is_some o || s.touched)
+      go None e = absurd (f e)
+      go (Some a) e = refl
+
+  pub unsettled_touched : s.first ≡ None → s.touched ≡ (is_some s.first || s.touched)
+  unsettled_touched e = rw e
 
 -- the tests 1, 2 and 3, by the answer to the first two
 module _ (n : ℕ) (m : Mem) (r : Answer) (e : (fuse : ℕ) → r ≡ answer_of fuse (if_sound n m (granted 0 []))) where

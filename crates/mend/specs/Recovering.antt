@@ -69,7 +69,7 @@ module _ (img : Image) (o : code.Option ℕ) (tiled : Tiled img) (e : o ≡ offs
             let a : h ≡ k.at = same_Some h k.at (sym z ∙ e ∙ ap offset_in q) in
             q ∙ ap {B = Option Head} some ((seek_placed (length img) (mem img) is_pending k tiled q).head_is ∙ ap (head (mem img)) (sym a))
 
-    pending_inside : Inside (length img) (mem img) h
+    pub pending_inside : Inside (length img) (mem img) h
     pending_inside = (seek_placed (length img) (mem img) is_pending (head (mem img) h) tiled pending_found).inside
 
     -- its header lies in the image

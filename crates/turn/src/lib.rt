@@ -2,39 +2,40 @@
 // bytes, any numbers and any fuse.
 #![tactic(auto)]
 
-ghost use Rattle.std.specs.Prelude.{◌≡◌, ◌+◌, ◌%◌, ◌≤◌, length};
+ghost use Rattle.std.specs.Prelude.{◌≡◌, length};
 ghost use Rattle.rules.specs.declared.Request.TheVariants.{Activate};
-ghost use Rattle.rules.specs.Words.{word_bytes, mem};
-ghost use Rattle.rules.specs.Clumps.{head, header_bytes};
+ghost use Rattle.rules.specs.Words.{mem};
+ghost use Rattle.rules.specs.Clumps.{head};
 ghost use Rattle.rules.specs.Requests.{activate, Does};
 ghost use Rattle.rules.specs.Reading.{clumps_of, Tiled};
+ghost use Rattle.walk.specs.Scans.{Finds};
 ghost use Rattle.steps.specs.Acts.{Acts};
 
 use answer::Refusal;
 use page::clump::Clump;
 use page::entry;
 use rules::Answer;
+use walk::Found;
 use word::Fuse;
 
-// Activate, in the clump at h.
-fn activate_at(img: &mut [u8], h: usize, offset: u64, fuse: u64) -> Answer
+// Activate, in the clump that was found.
+fn activate_at(img: &mut [u8], found: Found, offset: u64, fuse: u64) -> Answer
     requires tiled { Tiled img.old }
-    requires in_image { h + header_bytes ≤ length img.old }
-    requires aligned { h % word_bytes ≡ 0 }
-    ensures { Acts img.old (activate (mem img.old) (clumps_of img.old) offset (head (mem img.old) h)) fuse img.new result }
+    requires finds { Finds (length img.old) (mem img.old) offset found.at found.below }
+    ensures { Acts img.old (activate (mem img.old) (clumps_of img.old) offset (head (mem img.old) found.at)) fuse img.new result }
 {
-    let c = Clump::read(img, h);
+    let c = Clump::read(img, found.at);
     if c.state != Clump::RESERVED {
         return Answer::from(Refusal::WrongState);
     }
-    let l = Clump::list(img, h);
+    let l = Clump::list(img, found.at);
     let due = entry::unmarked(l);
     if !walk::all_valid(img, due) {
         return Answer::from(Refusal::BadTarget);
     }
     let mut p = Fuse::new(fuse);
-    p.store(img, h + 8, Clump::ACTIVATING);
-    steps::finish_activating(img, &mut p, h, due);
+    p.store(img, found.at + 8, Clump::ACTIVATING);
+    steps::finish_activating(img, &mut p, found.at, due);
     answer::finish(p.power, offset)
 }
 
@@ -47,5 +48,5 @@ pub fn activate(img: &mut [u8], offset: u64, fuse: u64) -> Answer
     let Some(found) = walk::find(img, offset) else {
         return Answer::from(Refusal::NoClump);
     };
-    activate_at(img, found.at, offset, fuse)
+    activate_at(img, found, offset, fuse)
 }

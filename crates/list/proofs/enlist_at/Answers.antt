@@ -15,7 +15,7 @@ returns-then-not-allowed c =
     let m = mem a.img.now in
     rw c.from.ensures
     (acts_same _ _
-    (enlist_state m (clumps_of a.img.now) a.allowed a.offset a.target (a.target + a.mark) a.value (head m a.h) c.if-not-allowed.true)
+    (enlist_state m (clumps_of a.img.now) a.allowed a.offset a.target (a.target + a.mark) a.value (head m a.found.at) c.if-not-allowed.true)
     (acts_refused _ _ _ _ _))
 
 pub returns-then-k-eq3 : goal.returns-then-k-eq3
@@ -24,8 +24,8 @@ returns-then-k-eq3 c =
     let m = mem a.img.now in
     rw c.from-then-k-eq3.ensures
     (acts_same _ _
-    (enlist-full m (clumps_of a.img.now) a.allowed a.offset a.target (a.target + a.mark) a.value (head m a.h) c.if-not-allowed.false _
-    (open_is m a.h _ _ c.list-l.ensures c.reach-k.ensures)
+    (enlist-full m (clumps_of a.img.now) a.allowed a.offset a.target (a.target + a.mark) a.value (head m a.found.at) c.if-not-allowed.false _
+    (open_is m a.found.at _ _ c.list-l.ensures c.reach-k.ensures)
     c.if-k-eq3.true)
     (acts_refused _ _ _ _ _))
 
@@ -35,8 +35,8 @@ returns-then-not-valid c =
     let m = mem a.img.now in
     rw c.from-then-not-valid.ensures
     (acts_same _ _
-    (enlist-bad m (clumps_of a.img.now) a.allowed a.offset a.target (a.target + a.mark) a.value (head m a.h) c.if-not-allowed.false _
-    (open_is m a.h _ _ c.list-l.ensures c.reach-k.ensures)
+    (enlist-bad m (clumps_of a.img.now) a.allowed a.offset a.target (a.target + a.mark) a.value (head m a.found.at) c.if-not-allowed.false _
+    (open_is m a.found.at _ _ c.list-l.ensures c.reach-k.ensures)
     c.if-k-eq3.false
     (sym c.valid.ensures ∙ c.if-not-valid.true))
     (acts_refused _ _ _ _ _))
@@ -51,8 +51,8 @@ returns c =
     let a = c.args in
     let m = mem a.img.now in
     acts_same _ _
-    (enlist-done m (clumps_of a.img.now) a.allowed a.offset a.target (a.target + a.mark) a.value (head m a.h) c.if-not-allowed.false _
-    (open_is m a.h _ _ c.list-l.ensures c.reach-k.ensures)
+    (enlist-done m (clumps_of a.img.now) a.allowed a.offset a.target (a.target + a.mark) a.value (head m a.found.at) c.if-not-allowed.false _
+    (open_is m a.found.at _ _ c.list-l.ensures c.reach-k.ensures)
     c.if-k-eq3.false
     (sym c.valid.ensures ∙ c.if-not-valid.false))
     (acts_ran _ _ (ran_then (rw c.new-p.ensures at c.store.ensures) c.store-2.ensures) c.finish.ensures)

@@ -45,15 +45,9 @@ read-c-requires-clause-aligned c =
 pub enlist_at-requires-clause-tiled : goal.enlist_at-requires-clause-tiled
 enlist_at-requires-clause-tiled c = settled_tiles c.args.img.now _ c.in_default.ensures refl
 
-pub enlist_at-requires-clause-in_image : goal.enlist_at-requires-clause-in_image
-enlist_at-requires-clause-in_image c =
-    let i = (found_some _ _ _ (settled_tiles c.args.img.now _ c.in_default.ensures refl) _ c.find.ensures _ c.in-Some.is).inside in
-    omega arith
-
-pub enlist_at-requires-clause-aligned : goal.enlist_at-requires-clause-aligned
-enlist_at-requires-clause-aligned c =
-    let i = (found_some _ _ _ (settled_tiles c.args.img.now _ c.in_default.ensures refl) _ c.find.ensures _ c.in-Some.is).inside in
-    omega arith
+pub enlist_at-requires-clause-finds : goal.enlist_at-requires-clause-finds
+enlist_at-requires-clause-finds c =
+    found_some _ _ _ (settled_tiles c.args.img.now _ c.in_default.ensures refl) _ c.find.ensures _ c.in-Some.is
 
 pub returns : goal.returns
 unfolding verdict

@@ -1,5 +1,5 @@
 -- `activate`: the survey, the finder, and the clump that it finds.
-use Rattle.std.proofs.Common.{arith, refl}
+use Rattle.std.proofs.Common.{refl}
 use Rattle.rules.specs.declared.Request.TheVariants.{Activate}
 use Rattle.rules.specs.Words.{mem}
 use Rattle.rules.specs.Requests.{finder, found, verdict, activate}
@@ -33,15 +33,9 @@ returns-in_default-find c =
 pub activate_at-requires-clause-tiled : goal.activate_at-requires-clause-tiled
 activate_at-requires-clause-tiled c = settled_tiles c.args.img.now _ c.in_default.ensures refl
 
-pub activate_at-requires-clause-in_image : goal.activate_at-requires-clause-in_image
-activate_at-requires-clause-in_image c =
-    let i = (found_some _ _ _ (settled_tiles c.args.img.now _ c.in_default.ensures refl) _ c.find.ensures _ c.in-Some.is).inside in
-    omega arith
-
-pub activate_at-requires-clause-aligned : goal.activate_at-requires-clause-aligned
-activate_at-requires-clause-aligned c =
-    let i = (found_some _ _ _ (settled_tiles c.args.img.now _ c.in_default.ensures refl) _ c.find.ensures _ c.in-Some.is).inside in
-    omega arith
+pub activate_at-requires-clause-finds : goal.activate_at-requires-clause-finds
+activate_at-requires-clause-finds c =
+    found_some _ _ _ (settled_tiles c.args.img.now _ c.in_default.ensures refl) _ c.find.ensures _ c.in-Some.is
 
 pub returns : goal.returns
 unfolding verdict

@@ -16,7 +16,7 @@ returns-then-c-ne-RESERVED c =
     let m = mem c.args.img.now in
     rw c.from.ensures
     (acts_same _ _
-    (activate_state m (clumps_of c.args.img.now) c.args.offset (head m c.args.h)
+    (activate_state m (clumps_of c.args.img.now) c.args.offset (head m c.args.found.at)
     (let x = c.read-c.ensures.state in cc (ne_eqb c.read-c.result.state 1 c.if-c-ne-RESERVED.true)))
     (acts_refused _ _ _ _ _))
 
@@ -26,9 +26,9 @@ returns-then-not-all_valid c =
     let e = c.unmarked-due.ensures ∙ ap (only_in unmarked) c.list-l.ensures in
     rw c.from-then-not-all_valid.ensures
     (acts_same _ _
-    (activate-bad m (clumps_of c.args.img.now) c.args.offset (head m c.args.h)
+    (activate-bad m (clumps_of c.args.img.now) c.args.offset (head m c.args.found.at)
     (let x = c.read-c.ensures.state in cc (eq-eqb c.read-c.result.state 1 c.if-c-ne-RESERVED.false))
-    (sym (list_valid_lem unmarked chooses_unmarked m _ c.args.h _ e) ∙ sym c.all_valid.ensures ∙ c.if-not-all_valid.true))
+    (sym (list_valid_lem unmarked chooses_unmarked m _ c.args.found.at _ e) ∙ sym c.all_valid.ensures ∙ c.if-not-all_valid.true))
     (acts_refused _ _ _ _ _))
 
 pub finish_activating-requires-clause-targets_in_image : goal.finish_activating-requires-clause-targets_in_image
@@ -40,9 +40,9 @@ returns c =
     let m = mem c.args.img.now in
     let e = c.unmarked-due.ensures ∙ ap (only_in unmarked) c.list-l.ensures in
     acts_same _ _
-    (activate-done m (clumps_of c.args.img.now) c.args.offset (head m c.args.h)
+    (activate-done m (clumps_of c.args.img.now) c.args.offset (head m c.args.found.at)
     (let x = c.read-c.ensures.state in cc (eq-eqb c.read-c.result.state 1 c.if-c-ne-RESERVED.false))
-    (sym (list_valid_lem unmarked chooses_unmarked m _ c.args.h _ e) ∙ sym c.all_valid.ensures ∙ c.if-not-all_valid.false)
+    (sym (list_valid_lem unmarked chooses_unmarked m _ c.args.found.at _ e) ∙ sym c.all_valid.ensures ∙ c.if-not-all_valid.false)
     _
     e)
     (acts_ran _ _ (ran_then (rw c.new-p.ensures at c.store.ensures) c.finish_activating.ensures) c.finish.ensures)

@@ -1,5 +1,5 @@
 -- `withdraw`: the survey, the finder, and the clump that it finds.
-use Rattle.std.proofs.Common.{arith, refl}
+use Rattle.std.proofs.Common.{refl}
 use Rattle.rules.specs.declared.Request.TheVariants.{Withdraw}
 use Rattle.rules.specs.Words.{mem}
 use Rattle.rules.specs.Requests.{finder, found, verdict, withdraw}
@@ -30,15 +30,9 @@ returns-in_default-find c =
     refl
     (found_none _ _ _ (settled_tiles c.args.img.now _ c.in_default.ensures refl) _ c.find.ensures c.in_default-find.is))
 
-pub withdraw_at-requires-clause-in_image : goal.withdraw_at-requires-clause-in_image
-withdraw_at-requires-clause-in_image c =
-    let i = (found_some _ _ _ (settled_tiles c.args.img.now _ c.in_default.ensures refl) _ c.find.ensures _ c.in-Some.is).inside in
-    omega arith
-
-pub withdraw_at-requires-clause-aligned : goal.withdraw_at-requires-clause-aligned
-withdraw_at-requires-clause-aligned c =
-    let i = (found_some _ _ _ (settled_tiles c.args.img.now _ c.in_default.ensures refl) _ c.find.ensures _ c.in-Some.is).inside in
-    omega arith
+pub withdraw_at-requires : goal.withdraw_at-requires
+withdraw_at-requires c =
+    record { finds = found_some _ _ _ (settled_tiles c.args.img.now _ c.in_default.ensures refl) _ c.find.ensures _ c.in-Some.is }
 
 pub returns : goal.returns
 unfolding verdict

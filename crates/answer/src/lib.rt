@@ -81,9 +81,9 @@ fn ended(p: Power, number: u64, place: u64) -> Answer
 pub fn finish(p: Power, place: u64) -> Answer
     ensures { result ≡ told p place }
 {
-    let cut = p.cut;
-    if cut {
-        return ended(p, Answer::CUT, 0);
+    if p.cut {
+        ended(p, Answer::CUT, 0)
+    } else {
+        ended(p, Answer::DONE, place)
     }
-    ended(p, Answer::DONE, place)
 }

@@ -37,6 +37,7 @@ fn write_clump(img: &mut [u8], p: &mut Fuse)
     p.store(img, page::HEADER_AT, page::SIGNATURE_LOW);
 }
 
+#[tactic(auto, unfolding(rules::specs::Pages::right_length))]
 pub fn create(img: &mut [u8], fuse: u64) -> Answer
     ensures { Does img.old Create fuse img.new result }
 {

@@ -17,8 +17,8 @@ use seen::{Fault, Seen};
 // What was seen, with the clump at h. A header that does not lie in the image cannot have a size that does, so that no word past the end is
 // read.
 fn see_clump(img: &[u8], s: Seen, h: usize) -> Seen
-    requires h_in_bounds { h < length img.now }
-    requires word_bytes_value { h % word_bytes ≡ 0 }
+    requires in_image { h < length img.now }
+    requires aligned { h % word_bytes ≡ 0 }
     requires up_to { UpTo h s.totals }
     ensures { result ≡ takes (fault_of (length img.now) (mem img.now) (head (mem img.now) h)) s (head (mem img.now) h) }
 {

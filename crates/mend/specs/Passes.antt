@@ -1,10 +1,10 @@
 -- A walk that stores behind itself. At the offset h of the walk over the image x, the stores done have led to the image img, the clumps
 -- from h on still stand there as in x, and the stores done with those still to do are the whole list. Assumes nothing.
-use Rattle.std.specs.Prelude.{ℕ, ◌+◌, ◌%◌, ◌<◌, ◌≤◌, ◌≡◌, Bool, true, false, cond, eqb, length}
+use Rattle.std.specs.Prelude.{ℕ, Option, Some, None, ◌+◌, ◌%◌, ◌<◌, ◌≤◌, ◌≡◌, Bool, true, false, cond, eqb, length}
 use Rattle.std.proofs.Math.Path.{refl, ap₂}
-use Rattle.std.proofs.Common.{sym, ap, ◌∙◌, subst, arith, eqb-true}
+use Rattle.std.proofs.Common.{sym, ap, ◌∙◌, subst, arith, ne_eqb}
 use mathlib.Core.List.{List, [], ◌∷◌, ◌++◌, append_assoc}
-use Rattle.std.proofs.lemmas.Bool.{eqb-false}
+use Rattle.std.proofs.lemmas.Option.{none-some, same_Some}
 use Rattle.rules.specs.Words.{Image, Mem, Store, mem, store, word_bytes}
 use Rattle.rules.specs.Pages.{clumps_at, unit}
 use Rattle.rules.specs.Clumps.{Head, head, is_free, state_at, least_clump, RESERVED, FREE, Tiles}
@@ -90,56 +90,94 @@ module _ {to-do : List Head → List Store} {x img : Image} {p q : Power} {h : �
         agree = λ o k. ap (λ (m : Mem). m o) s.memory ∙ below_after q.left now (mem img) (h + mem x h) o b k ∙ w.agree o (omega arith);
       }
 
--- the run that the walk is in
-abbrev pub open_next : Open → Head → Open
-open_next r h = record { first = next_first r.first r.own h; own = next_own r.own h; sum = next_sum r.own r.sum h }
+-- the run that the walk is in, by its three numbers: outside one they are 0
+abbrev pub first_of : Option Open → ℕ
+first_of None = 0
+first_of (Some r) = r.first
 
-abbrev pub open_store : Open → List Store
-open_store r = run_store r.first r.own r.sum
+abbrev pub own_of : Option Open → ℕ
+own_of None = 0
+own_of (Some r) = r.own
 
--- its first clump lies in an image of n bytes, or there is none
-abbrev pub OpenRun : ℕ → Open → Type 0
-OpenRun n r = (r.own ≡ r.sum → ⊥) → (r.first % word_bytes ≡ 0) × (r.first + word_bytes ≤ n)
+abbrev pub sum_of : Option Open → ℕ
+sum_of None = 0
+sum_of (Some r) = r.sum
 
--- what is known of the run at the offset h: outside one both sums are 0; inside, it reaches from its first clump to h
-pub record Runs (h : ℕ) (r : Open) : Type 0 where
-  pub shut : r.own ≡ 0 → r.sum ≡ 0
-  pub reach : (r.own ≡ 0 → ⊥) → (r.first + r.sum ≡ h) × (r.first % unit ≡ 0) × (least_clump ≤ r.own) × (r.own ≤ r.sum)
+abbrev pub joins_of : Option Open → List Head → List Store
+joins_of o = joins (first_of o) (own_of o) (sum_of o)
 
-pub runs_start : (h : ℕ) → Runs h (record { first = 0; own = 0; sum = 0 })
-runs_start h = record { shut = λ e. refl; reach = λ e. absurd (e refl) }
+-- the run after a FREE clump, and after any
+abbrev pub open_with : Option Open → Head → Open
+open_with None h = record { first = h.at; own = h.nbytes; sum = h.nbytes }
+open_with (Some r) h = record { first = r.first; own = r.own; sum = r.sum + h.nbytes }
 
-pub runs_sum : (h : ℕ) (r : Open) → Runs h r → r.sum ≤ h
-runs_sum h r w = go (eqb r.own 0) refl
+abbrev pub open_next : Option Open → Head → Option Open
+open_next o h = cond (is_free h) (Some (open_with o h)) None
+
+-- the store at its end
+abbrev pub open_store : Option Open → List Store
+open_store None = []
+open_store (Some r) = run_store r.first r.own r.sum
+
+pub open_store_is : (o : Option Open) → open_store o ≡ run_store (first_of o) (own_of o) (sum_of o)
+open_store_is None = refl
+open_store_is (Some r) = refl
+
+-- where it is stored, the first clump lies in an image of n bytes
+abbrev pub OpenRun : ℕ → Option Open → Type 0
+OpenRun n o = (r : Open) → o ≡ Some r → (r.own ≡ r.sum → ⊥) → (r.first % word_bytes ≡ 0) × (r.first + word_bytes ≤ n)
+
+-- what is known of the run at the offset h: it reaches from its first clump to h
+abbrev Reaches : ℕ → Open → Type 0
+Reaches h r = (r.first + r.sum ≡ h) × (r.first % unit ≡ 0) × (least_clump ≤ r.own) × (r.own ≤ r.sum)
+
+pub record Runs (h : ℕ) (o : Option Open) : Type 0 where
+  pub reach : (r : Open) → o ≡ Some r → Reaches h r
+
+pub runs_start : (h : ℕ) → Runs h None
+runs_start h = record { reach = λ r e. absurd (none-some r e) }
+
+pub runs_sum : (h : ℕ) (o : Option Open) → Runs h o → sum_of o ≤ h
+runs_sum h None w = omega arith
+runs_sum h (Some r) w = let e = w.reach r refl in omega arith
+
+pub runs_in : (h n : ℕ) (o : Option Open) → Runs h o → h ≤ n → OpenRun n o
+runs_in h n o w l = λ r z d. let e = w.reach r z in omega arith
+
+pub runs_below : (h b : ℕ) (o : Option Open) (t : Bool) → Runs h o → h ≤ b → Below b (cond t [] (open_store o))
+runs_below h b o true w l = tt
+runs_below h b None false w l = tt
+runs_below h b (Some r) false w l = go (eqb r.own r.sum)
   where
-    go : (b : Bool) → eqb r.own 0 ≡ b → r.sum ≤ h
-    go true q = let e = w.shut (eqb-true r.own 0 q) in omega arith
-    go false q = let e = w.reach (eqb-false r.own 0 q) in omega arith
+    go : (c : Bool) → Below b (cond c [] (store r.first r.sum ∷ []))
+    go true = tt
+    go false = let e = w.reach r refl in (omega arith, tt)
 
-runs_open : (h : ℕ) (r : Open) → Runs h r → (r.own ≡ r.sum → ⊥) → (r.first % unit ≡ 0) × (r.first + least_clump ≤ h)
-runs_open h r w d = let e = w.reach (λ z. d (z ∙ sym (w.shut z))) in omega arith
-
-pub runs_in : (h n : ℕ) (r : Open) → Runs h r → h ≤ n → OpenRun n r
-runs_in h n r w l d = let e = runs_open h r w d in omega arith
-
-pub runs_below : (h b : ℕ) (r : Open) (t : Bool) → Runs h r → h ≤ b → Below b (cond t [] (open_store r))
-runs_below h b r true w l = tt
-runs_below h b r false w l = go (eqb r.own r.sum) refl
+pub runs_next : (h : ℕ) (o : Option Open) (k : Head) → k.at ≡ h → h % unit ≡ 0 → least_clump ≤ k.nbytes → Runs h o → Runs (h + k.nbytes) (open_next o k)
+runs_next h o k e u l w = go (is_free k) o w
   where
-    go : (c : Bool) → eqb r.own r.sum ≡ c → Below b (cond c [] (store r.first r.sum ∷ []))
-    go true q = tt
-    go false q = let e = runs_open h r w (eqb-false r.own r.sum q) in (omega arith, tt)
+    go : (c : Bool) (i : Option Open) → Runs h i → Runs (h + k.nbytes) (cond c (Some (open_with i k)) None)
+    go false i v = runs_start (h + k.nbytes)
+    go true None v = record { reach = λ r z. subst (Reaches (h + k.nbytes)) (same_Some (open_with None k) r z) (omega arith) }
+    go true (Some s) v =
+        let x = v.reach s refl in
+        record { reach = λ r z. subst (Reaches (h + k.nbytes)) (same_Some (open_with (Some s) k) r z) (omega arith) }
 
-pub runs_next : (h : ℕ) (r : Open) (k : Head) → k.at ≡ h → h % unit ≡ 0 → least_clump ≤ k.nbytes → Runs h r → Runs (h + k.nbytes) (open_next r k)
-runs_next h r k e u l w = go (is_free k) (eqb r.own 0) refl
+-- the numbers go on as the rule's do
+joins_next :
+    (h : ℕ) (o : Option Open) (k : Head)
+    → Runs h o
+    → joins (next_first (first_of o) (own_of o) k) (next_own (own_of o) k) (next_sum (own_of o) (sum_of o) k) ≡ joins_of (open_next o k)
+joins_next h o k w = go (is_free k) o w
   where
     go :
-        (c d : Bool)
-        → eqb r.own 0 ≡ d
-        → Runs (h + k.nbytes) (record { first = cond c (cond d k.at r.first) 0; own = cond c (cond d k.nbytes r.own) 0; sum = cond c (cond d k.nbytes (r.sum + k.nbytes)) 0 })
-    go true true q = record { shut = λ z. z; reach = λ z. omega arith }
-    go true false q = let x = w.reach (eqb-false r.own 0 q) in record { shut = λ z. absurd (eqb-false r.own 0 q z); reach = λ z. omega arith }
-    go false d q = record { shut = λ z. refl; reach = λ z. absurd (z refl) }
+        (c : Bool) (i : Option Open)
+        → Runs h i
+        → joins (cond c (cond (eqb (own_of i) 0) k.at (first_of i)) 0) (cond c (cond (eqb (own_of i) 0) k.nbytes (own_of i)) 0) (cond c (cond (eqb (own_of i) 0) k.nbytes (sum_of i + k.nbytes)) 0)
+        ≡ joins_of (cond c (Some (open_with i k)) None)
+    go false i v = refl
+    go true None v = refl
+    go true (Some s) v = let x = v.reach s refl in rw (ne_eqb s.own 0 (omega arith)) refl
 
 -- one state store, which goes below the next clump
 pub state_below : (h b : ℕ) (t : Bool) → h + 8 < b → Below b (cond t (store (state_at h) 0 ∷ []) [])
@@ -161,22 +199,25 @@ module _ {x img y : Image} {p q u : Power} {h : ℕ} {whole : List Store} (n s :
       (state_below h (h + mem x h) (eqb (mem x (state_at h)) RESERVED) (omega (arith, k.least, k.size))) (rw f at r))
 
   pub join_next :
-      (r t : Open)
-      → Passing (joins r.first r.own r.sum) x p img q h whole
-      → Runs h r
-      → Ran img q (cond (eqb s FREE) [] (open_store r)) y u
-      → t ≡ open_next r (record { at = h; nbytes = n; state = s })
-      → Passing (joins t.first t.own t.sum) x p y u (h + n) whole × Runs (h + n) t × (h + n ≤ length x)
+      (o t : Option Open)
+      → Passing (joins_of o) x p img q h whole
+      → Runs h o
+      → Ran img q (cond (eqb s FREE) [] (open_store o)) y u
+      → t ≡ open_next o (record { at = h; nbytes = n; state = s })
+      → Passing (joins_of t) x p y u (h + n) whole × Runs (h + n) t × (h + n ≤ length x)
   unfolding joins
-  join_next r t w o a e =
+  join_next o t w v a e =
       let k = passing_here w l in
       let f : n ≡ mem x h = size ∙ k.size in
       let g : s ≡ mem x (state_at h) = state ∙ k.state in
       let c = head (mem x) h in
-      let d : t ≡ open_next r c = e ∙ ap₂ (λ (i j : ℕ). open_next r (record { at = h; nbytes = i; state = j })) f g in
+      let d : t ≡ open_next o c = e ∙ ap₂ (λ (i j : ℕ). open_next o (record { at = h; nbytes = i; state = j })) f g in
+      let then = joins (next_first (first_of o) (own_of o) c) (next_own (own_of o) c) (next_sum (own_of o) (sum_of o) c) in
       rw (d, f) (
-        passing_next w l (cond (is_free c) [] (open_store r)) (joins (next_first r.first r.own c) (next_own r.own c) (next_sum r.own r.sum c)) (λ m. refl)
-            (runs_below h (h + mem x h) r (is_free c) o (omega arith)) (rw g at a),
-        runs_next h r c refl k.even (rw k.size at k.least) o,
+        subst (λ (to-do : List Head → List Store). Passing to-do x p y u (h + mem x h) whole) (joins_next h o c v)
+            (passing_next w l (cond (is_free c) [] (open_store o)) then
+            (λ m. ap (λ (st : List Store). cond (is_free c) [] st ++ then m) (sym (open_store_is o)))
+            (runs_below h (h + mem x h) o (is_free c) v (omega arith)) (rw g at a)),
+        runs_next h o c refl k.even (rw k.size at k.least) v,
         omega (arith, k.room, k.size, w.ran.long),
       )

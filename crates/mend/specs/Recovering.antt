@@ -1,16 +1,18 @@
 -- Recovery as the code makes it: what each part stores, what the clumps are after it, and the whole. A part is gone on from only where
 -- nothing was cut, so that the image is then the one that all its stores leave. Assumes nothing.
-use Rattle.std.specs.Prelude.{ℕ, ◌+◌, ◌≡◌, true, false, List, [], ◌∷◌, ◌++◌, map, length}
+use Rattle.std.specs.Prelude.{ℕ, ◌+◌, ◌%◌, ◌≤◌, ◌≡◌, Some, None, true, false, List, [], ◌∷◌, ◌++◌, map, length}
 use Rattle.std.proofs.Math.Path.{refl, sym}
 use Rattle.std.proofs.Common.{ap, ◌∙◌, append_assoc, arith}
-use Rattle.std.proofs.Math.Option.{some, none}
+use Rattle.std.specs.Prelude as code
+use Rattle.std.proofs.Math.Option.{Option, some, none}
+use Rattle.std.proofs.lemmas.Option.{none-some, same_Some}
 use borrow.Author.Tests.{eq-eqb, ne_eqb}
 use Rattle.rules.specs.declared.Answer.{Answer}
 use Rattle.rules.specs.declared.Request.TheVariants.{Recover}
 use Rattle.rules.specs.Lists.{seek}
-use Rattle.rules.specs.Words.{Image, Mem, Store, mem, store}
+use Rattle.rules.specs.Words.{Image, Mem, Store, mem, store, word_bytes}
 use Rattle.rules.specs.Pages.{clumps_at}
-use Rattle.rules.specs.Clumps.{Head, head, is_pending, offset_of, state_at, ACTIVATING, ACTIVE, FREE, unmarked}
+use Rattle.rules.specs.Clumps.{Head, head, is_pending, header_bytes, state_at, ACTIVATING, ACTIVE, FREE, unmarked}
 use Rattle.rules.specs.Sound.{target_fault}
 use Rattle.rules.specs.Answers.{granted, if_sound}
 use Rattle.rules.specs.Stores.{finish_activating, finish_freeing, finishing, releasing, released, runs, joining, recover_stores}
@@ -20,11 +22,12 @@ use Rattle.word.specs.declared.Power.{Power}
 use Rattle.word.specs.Runs.{full, Ran, told, ran_then, ran_as, ran_whole, ran_cut}
 use Rattle.laws.specs.Walks.{walk-reads, walk_is, no_faults}
 use Rattle.laws.specs.Pools.{Sound, pool_tiles}
-use Rattle.laws.specs.Walking.{Inside}
+use Rattle.laws.specs.Walking.{Inside, seek_placed}
 use Rattle.laws.specs.Mending.{targets_valid, settle, freed, map-released, tiles_settle, tiles_freed, finish_reads, release_reads, releasing-settle}
 use Rattle.laws.specs.Choices.{chooses_unmarked}
 use Rattle.page.specs.Forms.{list_at, only_in, due_in, InImage}
-use Rattle.walk.specs.Scans.{offset_none, offset_some, offset_inside, due_valid, list_in}
+use Rattle.walk.specs.Scans.{due_valid, list_in}
+use Rattle.seen.specs.Forms.{offset_in}
 use Rattle.steps.specs.Lists.{assigns_of, empties_of, assigns_are, assigns_all, empties_are}
 use Rattle.steps.specs.Acts.{acts_does, acts_ran}
 
@@ -47,17 +50,34 @@ module _ (m : Mem) (hs : List Head) where
         let d : k ≡ list_at m h = due ∙ rw (ne_eqb s ACTIVATING z, list) in
         rw (e, ne_eqb (m (state_at h)) ACTIVATING (λ y. z (is ∙ y)), d, assigns_all m h)
 
--- the unfinished clump, by its place; 0 is none
-module _ (img : Image) (h : ℕ) (tiled : Tiled img) (e : h ≡ offset_of 0 (seek is_pending (clumps_of img))) where
-  pub pending_none : h ≡ 0 → finishing (mem img) (seek is_pending (clumps_of img)) ≡ []
-  pending_none z = finish_none (mem img) (clumps_of img) (offset_none (length img) (mem img) is_pending tiled 0 h e (λ l. omega arith))
+-- the unfinished clump, by its place
+module _ (img : Image) (o : code.Option ℕ) (tiled : Tiled img) (e : o ≡ offset_in (seek is_pending (clumps_of img))) where
+  pub pending_none : o ≡ None → finishing (mem img) (seek is_pending (clumps_of img)) ≡ []
+  pending_none z = finish_none (mem img) (clumps_of img) (go (seek is_pending (clumps_of img)) refl)
+    where
+      go : (x : Option Head) → seek is_pending (clumps_of img) ≡ x → seek is_pending (clumps_of img) ≡ none
+      go none q = q
+      go (some k) q = absurd (none-some k.at (sym z ∙ e ∙ ap offset_in q))
 
-  module _ (f : h ≡ 0 → ⊥) where
+  module _ (h : ℕ) (z : o ≡ Some h) where
     pub pending_found : seek is_pending (clumps_of img) ≡ some (head (mem img) h)
-    pending_found = offset_some (length img) (mem img) is_pending tiled 0 h e f
+    pending_found = go (seek is_pending (clumps_of img)) refl
+      where
+        go : (x : Option Head) → seek is_pending (clumps_of img) ≡ x → seek is_pending (clumps_of img) ≡ some (head (mem img) h)
+        go none q = absurd (none-some h (sym (ap offset_in q) ∙ sym e ∙ z))
+        go (some k) q =
+            let a : h ≡ k.at = same_Some h k.at (sym z ∙ e ∙ ap offset_in q) in
+            q ∙ ap {B = Option Head} some ((seek_placed (length img) (mem img) is_pending k tiled q).head_is ∙ ap (head (mem img)) (sym a))
 
-    pub pending_inside : Inside (length img) (mem img) h
-    pending_inside = offset_inside (length img) (mem img) is_pending tiled 0 h e f
+    pending_inside : Inside (length img) (mem img) h
+    pending_inside = (seek_placed (length img) (mem img) is_pending (head (mem img) h) tiled pending_found).inside
+
+    -- its header lies in the image
+    pub pending_in : h + header_bytes ≤ length img
+    pending_in = let i = pending_inside in omega arith
+
+    pub pending_even : h % word_bytes ≡ 0
+    pending_even = let i = pending_inside in omega arith
 
     pub pending_targets :
         target_fault (mem img) (clumps_of img) ≡ none

@@ -6,70 +6,67 @@ ghost use Rattle.std.proofs.Math.Option.{none};
 ghost use Rattle.rules.specs.declared.Request.TheVariants.{Recover};
 ghost use Rattle.rules.specs.Lists.{seek};
 ghost use Rattle.rules.specs.Words.{word_bytes, word_values, mem, store};
-ghost use Rattle.rules.specs.Clumps.{header_bytes, is_pending, offset_of, state_at, RESERVED, FREE};
+ghost use Rattle.rules.specs.Clumps.{header_bytes, is_pending, state_at, RESERVED, FREE};
 ghost use Rattle.rules.specs.Sound.{target_fault};
 ghost use Rattle.rules.specs.Stores.{finishing, releasing, runs, joining};
 ghost use Rattle.rules.specs.Requests.{Does};
 ghost use Rattle.rules.specs.Reading.{clumps_of, Tiled};
 ghost use Rattle.word.specs.Runs.{Ran};
 ghost use Rattle.page.specs.Forms.{head_of};
-ghost use Rattle.mend.specs.Passes.{OpenRun, open_store, open_next};
+ghost use Rattle.seen.specs.Forms.{offset_in};
+ghost use Rattle.mend.specs.Passes.{OpenRun, sum_of, open_store, open_next};
 
 use page::clump::Clump;
 use page::{CLUMPS_AT, entry};
 use rules::Answer;
-use word::Power;
+use word::Fuse;
 
-// "finish the ACTIVATING clump (assign, empty the list, ACTIVE) or the FREEING one (assign, FREE)": the one at h, or none where h is 0.
-fn finish_pending(img: &mut [u8], p: Power, h: usize) -> Power
+// "finish the ACTIVATING clump (assign, empty the list, ACTIVE) or the FREEING one (assign, FREE)": the one at that place, if there is one.
+#[tactic(auto, using(crate::specs::Recovering::pending_in, crate::specs::Recovering::pending_even))]
+fn finish_pending(img: &mut [u8], p: &mut Fuse, pending: Option<usize>)
     requires tiled { Tiled img.old }
-    requires h_value { h ≡ offset_of 0 (seek is_pending (clumps_of img.old)) }
-    requires img_value { target_fault (mem img.old) (clumps_of img.old) ≡ none }
-    requires left_bound { p.made + p.left < word_values }
-    ensures { Ran img.old p (finishing (mem img.old) (seek is_pending (clumps_of img.old))) img.new result }
+    requires unfinished { pending ≡ offset_in (seek is_pending (clumps_of img.old)) }
+    requires targets_valid { target_fault (mem img.old) (clumps_of img.old) ≡ none }
+    ensures { Ran img.old p.old.power (finishing (mem img.old) (seek is_pending (clumps_of img.old))) img.new p.new.power }
 {
-    if h == 0 {
-        return p;
-    }
+    let Some(h) = pending else {
+        return;
+    };
     let c = Clump::read(img, h);
     let l = Clump::list(img, h);
     let due = entry::due(c.state, l);
     if c.state == Clump::ACTIVATING {
-        return steps::finish_activating(img, p, h, due);
+        steps::finish_activating(img, p, h, due);
+    } else {
+        steps::finish_freeing(img, p, h, due);
     }
-    steps::finish_freeing(img, p, h, due)
 }
 
 // RESERVED to FREE, and no store to a clump in any other state.
-fn free_reserved(img: &mut [u8], p: Power, h: usize, state: u64) -> Power
-    requires header_bytes_in_bounds { h + header_bytes ≤ length img.old }
-    requires word_bytes_value { h % word_bytes ≡ 0 }
-    requires left_bound { p.made + p.left < word_values }
-    ensures { Ran img.old p (cond (eqb state RESERVED) (store (state_at h) FREE ∷ []) []) img.new result }
+fn free_reserved(img: &mut [u8], p: &mut Fuse, c: Clump)
+    requires in_image { c.at + header_bytes ≤ length img.old }
+    requires aligned { c.at % word_bytes ≡ 0 }
+    ensures { Ran img.old p.old.power (cond (eqb c.state RESERVED) (store (state_at c.at) FREE ∷ []) []) img.new p.new.power }
 {
-    if state == Clump::RESERVED {
-        return word::store(img, p, h + 8, Clump::FREE);
+    if c.state == Clump::RESERVED {
+        p.store(img, c.at + 8, Clump::FREE);
     }
-    p
 }
 
 // "then each RESERVED to FREE, upward"
-fn release_reserved(img: &mut [u8], p: Power) -> Power
+fn release_reserved(img: &mut [u8], p: &mut Fuse)
     requires tiled { Tiled img.old }
-    requires left_bound { p.made + p.left < word_values }
-    ensures { Ran img.old p (releasing (clumps_of img.old)) img.new result }
+    ensures { Ran img.old p.old.power (releasing (clumps_of img.old)) img.new p.new.power }
 {
-    let mut q = p;
     let mut h: usize = CLUMPS_AT;
     while h < img.len() {
         let c = Clump::read(img, h);
-        q = free_reserved(img, q, h, c.state);
+        free_reserved(img, p, c);
         h += c.nbytes as usize;
     }
-    q
 }
 
-// The run of FREE clumps that a walk is in: where it starts, nbytes of its first clump, and the sum so far; all 0 outside a run.
+// The run of FREE clumps that a walk is in: where it starts, nbytes of its first clump, and the sum so far.
 #[derive(Clone, Copy)]
 pub struct Open {
     pub first: usize,
@@ -77,88 +74,74 @@ pub struct Open {
     pub sum: u64,
 }
 
-// The run after one clump more.
-fn next_run(r: Open, h: usize, c: Clump) -> Open
-    requires { r.sum + c.nbytes < word_values }
-    ensures { result ≡ open_next r (head_of h c) }
+// The run that the walk is in after one clump more, if it is in one.
+fn next_run(run: Option<Open>, c: Clump) -> Option<Open>
+    requires { sum_of run + c.nbytes < word_values }
+    ensures { result ≡ open_next run (head_of c) }
 {
     if c.state != Clump::FREE {
-        return Open {
-            first: 0,
-            own: 0,
-            sum: 0,
-        };
+        return None;
     }
-    if r.own == 0 {
-        return Open {
-            first: h,
+    match run {
+        None => Some(Open {
+            first: c.at,
             own: c.nbytes,
             sum: c.nbytes,
-        };
-    }
-    Open {
-        first: r.first,
-        own: r.own,
-        sum: r.sum + c.nbytes,
+        }),
+        Some(r) => Some(Open {
+            sum: r.sum + c.nbytes,
+            ..r
+        }),
     }
 }
 
 // The store at the end of a run that has more than its first clump: it ends where the state is not FREE.
-fn store_run(img: &mut [u8], p: Power, r: Open, state: u64) -> Power
-    requires open_run { OpenRun (length img.old) r }
-    requires left_bound { p.made + p.left < word_values }
-    ensures { Ran img.old p (cond (eqb state FREE) [] (open_store r)) img.new result }
+fn store_run(img: &mut [u8], p: &mut Fuse, run: Option<Open>, state: u64)
+    requires { OpenRun (length img.old) run }
+    ensures { Ran img.old p.old.power (cond (eqb state FREE) [] (open_store run)) img.new p.new.power }
 {
     if state == Clump::FREE {
-        return p;
+        return;
     }
-    if r.own == r.sum {
-        return p;
+    if let Some(r) = run {
+        if r.own != r.sum {
+            p.store(img, r.first, r.sum);
+        }
     }
-    let first = r.first;
-    word::store(img, p, first, r.sum)
 }
 
 // "then, upward, one store for each run of touching FREE clumps, their sum to the nbytes of its first"
-fn join_runs(img: &mut [u8], p: Power) -> Power
+fn join_runs(img: &mut [u8], p: &mut Fuse)
     requires tiled { Tiled img.old }
-    requires left_bound { p.made + p.left < word_values }
-    ensures { Ran img.old p (joining (runs (clumps_of img.old))) img.new result }
+    ensures { Ran img.old p.old.power (joining (runs (clumps_of img.old))) img.new p.new.power }
 {
-    let mut q = p;
     let mut h: usize = CLUMPS_AT;
-    let mut r = Open {
-        first: 0,
-        own: 0,
-        sum: 0,
-    };
+    let mut run: Option<Open> = None;
     while h < img.len() {
         let c = Clump::read(img, h);
-        q = store_run(img, q, r, c.state);
-        r = next_run(r, h, c);
+        store_run(img, p, run, c.state);
+        run = next_run(run, c);
         h += c.nbytes as usize;
     }
-    store_run(img, q, r, Clump::ACTIVE)
+    store_run(img, p, run, Clump::ACTIVE);
 }
 
 pub fn recover(img: &mut [u8], fuse: u64) -> Answer
     ensures { Does img.old Recover fuse img.new result }
 {
-    let v = survey::sound(img);
-    let a = v.answer;
-    if a.answer != Answer::DONE {
-        return a;
+    let surveyed = survey::sound(img);
+    if let Err(refusal) = surveyed.tests {
+        return Answer::from(refusal);
     }
-    let s = v.seen;
-    let p = Power::new(fuse);
-    let p1 = finish_pending(img, p, s.first);
-    if p1.cut {
-        return answer::finish(p1, 0);
+    let mut p = Fuse::new(fuse);
+    finish_pending(img, &mut p, surveyed.seen.first);
+    if p.power.cut {
+        return answer::finish(p.power, 0);
     }
-    let p2 = release_reserved(img, p1);
-    if p2.cut {
-        return answer::finish(p2, 0);
+    release_reserved(img, &mut p);
+    if p.power.cut {
+        return answer::finish(p.power, 0);
     }
-    let p3 = join_runs(img, p2);
-    answer::finish(p3, 0)
+    join_runs(img, &mut p);
+    answer::finish(p.power, 0)
 }

@@ -26,6 +26,7 @@ fn cleared_words(size: usize, clears: bool) -> usize
 }
 
 // What ends both ways, once the clump has its size: its body cleared, then its state.
+#[tactic(auto, using(laws::specs::Clearing::cleared_room))]
 fn take(img: &mut [u8], p: &mut Fuse, h: usize, size: usize, clears: bool)
     requires has_a_body { least_clump ≤ size }
     requires in_image { h + size ≤ length img.old }

@@ -47,13 +47,13 @@ drop_of h state l =
 abbrev pub store_if : ℕ → ℕ → ℕ → List Store
 store_if bytes at w = cond (eqb bytes 0) [] (store at w ∷ [])
 
--- the clump c at h, which has its body at the offset asked about, as the code has it before it is freed
-pub record Releasing (img : Image) (offset h below : ℕ) (c : Clump) (l : List (List ℕ)) : Type 0 where
+-- the clump c, which has its body at the offset asked about, as the code has it before it is freed
+pub record Releasing (img : Image) (offset below : ℕ) (c : Clump) (l : List (List ℕ)) : Type 0 where
   pub tiles : Tiled img
-  pub finds : Finds (length img) (mem img) offset h below
-  pub size : c.nbytes ≡ mem img h
-  pub is : c.state ≡ mem img (state_at h)
-  pub list : l ≡ list_at (mem img) h
+  pub finds : Finds (length img) (mem img) offset c.at below
+  pub size : c.nbytes ≡ mem img c.at
+  pub is : c.state ≡ mem img (state_at c.at)
+  pub list : l ≡ list_at (mem img) c.at
   pub small : length img < word_values
   pub valid : list_valid (clumps_of img) (freed_in c.state l) ≡ true
 
@@ -132,10 +132,10 @@ joins_are (some k) y h at f g =
     rw (ne_eqb k.nbytes 0 (omega (arith, f k refl)))
     (ap (λ (st : List Store). store h.at (h.nbytes + k.nbytes) ∷ st) (before_are y at (h.nbytes + k.nbytes) g))
 
--- the clump c at h, which is freed: the next one is read at its end, the one before at `below`
-module _ {img : Image} {offset h below : ℕ} {c : Clump} {l : List (List ℕ)} (t : Releasing img offset h below c l) where
+-- the clump c, which is freed: the next one is read at its end, the one before at `below`
+module _ {img : Image} {offset below : ℕ} {c : Clump} {l : List (List ℕ)} (t : Releasing img offset below c l) where
   abbrev this : Head
-  this = head (mem img) h
+  this = head (mem img) c.at
 
   abbrev next : ℕ
   next = size_of (free_after (clumps_of img) this)
@@ -144,8 +144,8 @@ module _ {img : Image} {offset h below : ℕ} {c : Clump} {l : List (List ℕ)} 
   under = size_of (free_before (clumps_of img) this)
 
   -- what was read are their bytes, if they are FREE
-  next_bytes : free_bytes (length img) (mem img) (h + c.nbytes) ≡ next
-  next_bytes = rw t.size (beside.next_bytes (length img) (mem img) h t.tiles _ t.finds.found)
+  next_bytes : free_bytes (length img) (mem img) (c.at + c.nbytes) ≡ next
+  next_bytes = rw t.size (beside.next_bytes (length img) (mem img) c.at t.tiles _ t.finds.found)
 
   abbrev below_stands : before_of (clumps_of img) this ≡ clump_at (length img) (mem img) below
   below_stands = before_at (length img) (mem img) t.tiles this ∙ ap (clump_at (length img) (mem img)) (sym t.finds.under)
@@ -154,8 +154,8 @@ module _ {img : Image} {offset h below : ℕ} {c : Clump} {l : List (List ℕ)} 
   below_bytes = ap (λ (o : Option Head). size_of (if_free o)) (sym below_stands)
 
   -- a clump that stands there has its header in the image
-  pub next_header : (h + c.nbytes ≡ 0 → ⊥) → h + c.nbytes < length img → ((h + c.nbytes) % word_bytes ≡ 0) × (h + c.nbytes + header_bytes ≤ length img)
-  next_header = rw t.size (beside.next_header (length img) (mem img) h t.tiles _ t.finds.found)
+  pub next_header : (c.at + c.nbytes ≡ 0 → ⊥) → c.at + c.nbytes < length img → ((c.at + c.nbytes) % word_bytes ≡ 0) × (c.at + c.nbytes + header_bytes ≤ length img)
+  next_header = rw t.size (beside.next_header (length img) (mem img) c.at t.tiles _ t.finds.found)
 
   pub below_header : (below ≡ 0 → ⊥) → below < length img → (below % word_bytes ≡ 0) × (below + header_bytes ≤ length img)
   below_header = stands_header (length img) (mem img) t.tiles _ below below_stands
@@ -167,51 +167,51 @@ module _ {img : Image} {offset h below : ℕ} {c : Clump} {l : List (List ℕ)} 
       (i.0, omega (arith, i.1))
 
   -- the FREE ones, by where they stand
-  below_free : (k : Head) → free_before (clumps_of img) this ≡ some k → Lies (length img) k × (end_of k ≡ h) × (k.at ≡ below)
+  below_free : (k : Head) → free_before (clumps_of img) this ≡ some k → Lies (length img) k × (end_of k ≡ c.at) × (k.at ≡ below)
   below_free k e =
       let x = (if_free_lem (before_of (clumps_of img) this) k e).0 in (
         placed-lies (length img) (mem img) k t.small (seek_placed (length img) (mem img) _ k t.tiles x),
-        eqb-true (end_of k) h (seek_split _ (clumps_of img) k x).passes,
+        eqb-true (end_of k) c.at (seek_split _ (clumps_of img) k x).passes,
         sym (t.finds.under ∙ ap (offset_of 0) x),
       )
 
   -- the sum of all three stays within the image
-  next_room : h + c.nbytes + free_bytes (length img) (mem img) (h + c.nbytes) ≤ length img
-  next_room = rw t.size (beside.next_room (length img) (mem img) h t.tiles _ t.finds.found t.small t.finds.inside.room)
+  next_room : c.at + c.nbytes + free_bytes (length img) (mem img) (c.at + c.nbytes) ≤ length img
+  next_room = rw t.size (beside.next_room (length img) (mem img) c.at t.tiles _ t.finds.found t.small t.finds.inside.room)
 
-  below_room : free_bytes (length img) (mem img) below ≤ h
+  below_room : free_bytes (length img) (mem img) below ≤ c.at
   below_room =
       rw below_bytes
-      (let r = size_room (free_before (clumps_of img) this) 0 h (omega arith) (λ k q. let x = below_free k q in omega (arith, x.1)) in
+      (let r = size_room (free_before (clumps_of img) this) 0 c.at (omega arith) (λ k q. let x = below_free k q in omega (arith, x.1)) in
       omega arith)
 
-  pub sum_room : (n k : ℕ) → n ≡ free_bytes (length img) (mem img) (h + c.nbytes) → k ≡ free_bytes (length img) (mem img) below → k + (c.nbytes + n) ≤ length img
+  pub sum_room : (n k : ℕ) → n ≡ free_bytes (length img) (mem img) (c.at + c.nbytes) → k ≡ free_bytes (length img) (mem img) below → k + (c.nbytes + n) ≤ length img
   sum_room n k e f = omega (arith, next_room, below_room)
 
-  drops_are : drop_of h c.state l ≡ drop_stores (mem img) this
+  drops_are : drop_of c.at c.state l ≡ drop_stores (mem img) this
   drops_are = rw (t.is, t.list) (drops_as (mem img) this)
 
   free_stores_lem :
-      drop_of h c.state l ++ (store_if next h (c.nbytes + next) ++ store_if under below (under + (c.nbytes + next)))
+      drop_of c.at c.state l ++ (store_if next c.at (c.nbytes + next) ++ store_if under below (under + (c.nbytes + next)))
       ≡ free_stores (mem img) (clumps_of img) this
   unfolding free_stores
   free_stores_lem =
       rw t.size
       (ap₂ ◌++◌ drops_are
       (sym (joins_are (free_after (clumps_of img) this) (free_before (clumps_of img) this) this below
-      (λ k q. let x = beside.next_free_lem (length img) (mem img) h t.tiles _ t.finds.found t.small k q in omega (arith, x.0.least))
+      (λ k q. let x = beside.next_free_lem (length img) (mem img) c.at t.tiles _ t.finds.found t.small k q in omega (arith, x.0.least))
       (λ k q. let x = below_free k q in (x.2, omega (arith, x.0.least))))))
 
   pub release_acts :
       {x y z : Image} {p q r u : Power} {w : Answer} (n k fuse : ℕ)
-      → n ≡ free_bytes (length img) (mem img) (h + c.nbytes)
+      → n ≡ free_bytes (length img) (mem img) (c.at + c.nbytes)
       → k ≡ free_bytes (length img) (mem img) below
       → p ≡ full fuse
-      → Ran img p (drop_of h c.state l) x q
-      → Ran x q (store_if n h (c.nbytes + n)) y r
+      → Ran img p (drop_of c.at c.state l) x q
+      → Ran x q (store_if n c.at (c.nbytes + n)) y r
       → Ran y r (store_if k below (k + (c.nbytes + n))) z u
       → w ≡ told u offset
-      → Acts img (granted offset (free_stores (mem img) (clumps_of img) (head (mem img) h))) fuse z w
+      → Acts img (granted offset (free_stores (mem img) (clumps_of img) (head (mem img) c.at))) fuse z w
   release_acts {u = u} n k fuse e f g a b d i =
       let e' = e ∙ next_bytes in
       let f' = f ∙ below_bytes in

@@ -2,9 +2,9 @@
 // to what is FREE beside it. It takes any bytes, any numbers and any fuse.
 #![tactic(auto)]
 
-ghost use Rattle.std.specs.Prelude.{◌≡◌, ◌+◌, ◌%◌, ◌≤◌, ◌<◌, length};
+ghost use Rattle.std.specs.Prelude.{◌≡◌, ◌+◌, ◌%◌, ◌≤◌, length};
 ghost use Rattle.rules.specs.declared.Request.TheVariants.{Free};
-ghost use Rattle.rules.specs.Words.{word_bytes, word_values, mem};
+ghost use Rattle.rules.specs.Words.{word_bytes, mem};
 ghost use Rattle.rules.specs.Clumps.{head, header_bytes};
 ghost use Rattle.rules.specs.Answers.{granted};
 ghost use Rattle.rules.specs.Stores.{free_stores};
@@ -17,11 +17,12 @@ ghost use Rattle.walk.specs.Scans.{Finds};
 ghost use Rattle.steps.specs.Acts.{Acts};
 ghost use Rattle.release.specs.Releases.{freed_in, drop_of, store_if, Releasing};
 
+use answer::Refusal;
 use page::clump::Clump;
 use page::entry;
 use rules::Answer;
 use walk::Found;
-use word::Power;
+use word::Fuse;
 
 // Whether a clump in that state may be freed with that list: the targets of the entries that free carries out must be valid, of an ACTIVE
 // clump all, of a RESERVED one those of the marked entries.
@@ -30,95 +31,90 @@ fn may_drop(img: &[u8], state: u64, l: [[u64; 2]; 3]) -> bool
     ensures { result ≡ list_valid (clumps_of img.now) (freed_in state l) }
 {
     if state == Clump::ACTIVE {
-        return walk::all_valid(img, l);
+        walk::all_valid(img, l)
+    } else {
+        walk::all_valid(img, entry::marked(l))
     }
-    let marked = entry::marked(l);
-    walk::all_valid(img, marked)
 }
 
 // One store, if there is a clump to join.
-fn store_if(img: &mut [u8], p: Power, bytes: u64, at: usize, w: u64) -> Power
-    requires word_bytes_value { (bytes ≡ 0 → ⊥) → (at % word_bytes ≡ 0) × (at + word_bytes ≤ length img.old) }
-    requires left_bound { p.made + p.left < word_values }
-    ensures { Ran img.old p (store_if bytes at w) img.new result }
+fn store_if(img: &mut [u8], p: &mut Fuse, bytes: u64, at: usize, w: u64)
+    requires in_image { (bytes ≡ 0 → ⊥) → at + word_bytes ≤ length img.old }
+    requires aligned { (bytes ≡ 0 → ⊥) → at % word_bytes ≡ 0 }
+    ensures { Ran img.old p.old.power (store_if bytes at w) img.new p.new.power }
 {
-    if bytes == 0 {
-        return p;
+    if bytes != 0 {
+        p.store(img, at, w);
     }
-    word::store(img, p, at, w)
 }
 
 // What free stores to the clump itself. The unmarked entries of a RESERVED clump were never due: they are emptied before it goes FREEING,
 // since a FREEING clump carries out whatever is used.
-fn drop_list(img: &mut [u8], p: Power, h: usize, state: u64, l: [[u64; 2]; 3]) -> Power
-    requires header_bytes_in_bounds { h + header_bytes ≤ length img.old }
-    requires word_bytes_value { h % word_bytes ≡ 0 }
-    requires in_image { InImage (length img.old) (freed_in state l) }
-    requires left_bound { p.made + p.left < word_values }
-    ensures { Ran img.old p (drop_of h state l) img.new result }
+fn drop_list(img: &mut [u8], p: &mut Fuse, c: Clump, l: [[u64; 2]; 3])
+    requires in_image { c.at + header_bytes ≤ length img.old }
+    requires aligned { c.at % word_bytes ≡ 0 }
+    requires targets_in_image { InImage (length img.old) (freed_in c.state l) }
+    ensures { Ran img.old p.old.power (drop_of c.at c.state l) img.new p.new.power }
 {
     let marked = entry::marked(l);
-    if state == Clump::ACTIVE {
-        return steps::carry_out(img, p, h, l);
+    if c.state == Clump::ACTIVE {
+        steps::carry_out(img, p, c.at, l);
+    } else if entry::reach(marked) == 0 {
+        p.store(img, c.at + 8, Clump::FREE);
+    } else {
+        steps::empty_used(img, p, c.at, entry::unmarked(l));
+        steps::carry_out(img, p, c.at, marked);
     }
-    if entry::reach(marked) == 0 {
-        return word::store(img, p, h + 8, Clump::FREE);
-    }
-    let unmarked = entry::unmarked(l);
-    let p1 = steps::empty_used(img, p, h, unmarked);
-    steps::carry_out(img, p1, h, marked)
 }
 
-// The clump at h freed, and joined to the clumps beside it that are FREE: the next one, at its end, and the one below.
+// The clump freed, and joined to the clumps beside it that are FREE: the next one, at its end, and the one below.
 fn release(
     img: &mut [u8],
-    h: usize,
     below: usize,
     c: Clump,
     l: [[u64; 2]; 3],
     offset: u64,
     fuse: u64,
 ) -> Answer
-    requires { Releasing img.old offset h below c l }
-    ensures { Acts img.old (granted offset (free_stores (mem img.old) (clumps_of img.old) (head (mem img.old) h))) fuse img.new result }
+    requires { Releasing img.old offset below c l }
+    ensures { Acts img.old (granted offset (free_stores (mem img.old) (clumps_of img.old) (head (mem img.old) c.at))) fuse img.new result }
 {
-    let next = walk::free_bytes(img, h + c.nbytes as usize);
+    let next = walk::free_bytes(img, c.at + c.nbytes as usize);
     let under = walk::free_bytes(img, below);
     let both = c.nbytes + next;
     let all = under + both;
-    let p = Power::new(fuse);
-    let p1 = drop_list(img, p, h, c.state, l);
-    let p2 = store_if(img, p1, next, h, both);
-    let p3 = store_if(img, p2, under, below, all);
-    answer::finish(p3, offset)
+    let mut p = Fuse::new(fuse);
+    drop_list(img, &mut p, c, l);
+    store_if(img, &mut p, next, c.at, both);
+    store_if(img, &mut p, under, below, all);
+    answer::finish(p.power, offset)
 }
 
-// Free, in the clump at h, with the one at `below` before it.
-fn free_at(img: &mut [u8], h: usize, below: usize, offset: u64, fuse: u64) -> Answer
+// Free, in the clump that was found.
+fn free_at(img: &mut [u8], found: Found, offset: u64, fuse: u64) -> Answer
     requires tiled { Tiled img.old }
-    requires finds { Finds (length img.old) (mem img.old) offset h below }
-    ensures { Acts img.old (free (mem img.old) (clumps_of img.old) offset (head (mem img.old) h)) fuse img.new result }
+    requires finds { Finds (length img.old) (mem img.old) offset found.at found.below }
+    ensures { Acts img.old (free (mem img.old) (clumps_of img.old) offset (head (mem img.old) found.at)) fuse img.new result }
 {
-    let c = Clump::read(img, h);
+    let c = Clump::read(img, found.at);
     if !seen::header::waits(c.state) {
-        return answer::refusal(Answer::WRONG_STATE);
+        return Answer::from(Refusal::WrongState);
     }
-    let l = Clump::list(img, h);
+    let l = Clump::list(img, found.at);
     if !may_drop(img, c.state, l) {
-        return answer::refusal(Answer::BAD_TARGET);
+        return Answer::from(Refusal::BadTarget);
     }
-    release(img, h, below, c, l, offset, fuse)
+    release(img, found.below, c, l, offset, fuse)
 }
 
 pub fn free(img: &mut [u8], offset: u64, fuse: u64) -> Answer
     ensures { Does img.old (Free offset) fuse img.new result }
 {
-    let a = survey::survey(img);
-    if a.answer != Answer::DONE {
-        return a;
+    if let Err(refusal) = survey::survey(img) {
+        return Answer::from(refusal);
     }
-    let Found::At(h, below) = walk::find(img, offset) else {
-        return answer::refusal(Answer::NO_CLUMP);
+    let Some(found) = walk::find(img, offset) else {
+        return Answer::from(Refusal::NoClump);
     };
-    free_at(img, h, below, offset, fuse)
+    free_at(img, found, offset, fuse)
 }

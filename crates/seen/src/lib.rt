@@ -36,8 +36,8 @@ pub struct Seen {
 // The totals with one clump more, in one of the five states.
 fn add(t: Totals, c: Clump) -> Totals
     requires up_to { UpTo c.at t }
-    requires nbytes_bound { c.at + c.nbytes < word_values }
-    requires state_bound { c.state ≤ FREEING }
+    requires end_fits { c.at + c.nbytes < word_values }
+    requires one_of_five { c.state ≤ FREEING }
     ensures { result ≡ added t (head_of c) }
 {
     match c.state {
@@ -121,8 +121,8 @@ impl Seen {
     // With one clump more, which has none of the faults 1 to 3.
     fn pass(self, c: Clump) -> Seen
         requires up_to { UpTo c.at self.totals }
-        requires nbytes_bound { c.at + c.nbytes < word_values }
-        requires state_bound { c.state ≤ FREEING }
+        requires end_fits { c.at + c.nbytes < word_values }
+        requires one_of_five { c.state ≤ FREEING }
         ensures { result ≡ more self (head_of c) }
     {
         Seen {
@@ -134,7 +134,7 @@ impl Seen {
     // With one clump more: its header and its list.
     #[tactic(auto, using(crate::specs::Judging::fault_none))]
     pub fn take(self, n: usize, c: Clump, l: [[u64; 2]; 3]) -> Seen
-        requires at_le_n { c.at ≤ n }
+        requires in_image { c.at ≤ n }
         requires up_to { UpTo c.at self.totals }
         ensures { result ≡ takes (fault_in n l (head_of c)) self (head_of c) }
     {

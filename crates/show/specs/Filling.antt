@@ -31,11 +31,11 @@ pub filling_next :
     → Filling n m from before out at count
     → at + header_bytes ≤ n
     → count + three_bytes ≤ room
-    → (c.nbytes ≡ m at) × (c.state ≡ m (state_at at))
-    → Wrote out count (head_text (head_of at c)) out' r
+    → (c.at ≡ at) × (c.nbytes ≡ m at) × (c.state ≡ m (state_at at))
+    → Wrote out count (head_text (head_of c)) out' r
     → r ≤ count + three_bytes
     → room ≤ length out
-    → next ≡ onward n (head_of at c)
+    → next ≡ onward n (head_of c)
     → (at < next) × Filling n m from before out' next r
 filling_next {n} {m} {from} {before} {out} {at} {count} c out' r next f l u read w most fits on = go f.steps f.enough f.part
   where
@@ -46,8 +46,8 @@ filling_next {n} {m} {from} {before} {out} {at} {count} c out' r next f l u read
     go zero enough part = absurd (omega arith)
     go (suc k) enough part =
         let line = head_text (head m at) in
-        let v : Wrote out count line out' r = rw (read.0, read.1) at w in
-        let o : next ≡ onward n (head m at) = rw (read.0, read.1) at on in
+        let v : Wrote out count line out' r = rw (read.0, read.1, read.2) at w in
+        let o : next ≡ onward n (head m at) = rw (read.0, read.1, read.2) at on in
         let more : at < next = rw o (onward_further n (head m at) (omega arith)) in (
           more,
           record {

@@ -55,14 +55,15 @@ fn one_more(length: usize, at: usize, count: usize) -> bool
 }
 
 // Where the walk goes on behind a clump: at its end, or at the image's where its size is at fault.
-fn behind(length: usize, at: usize, c: Clump) -> usize
-    requires { at < length }
-    ensures { result ≡ onward length (head_of at c) }
+fn behind(length: usize, c: Clump) -> usize
+    requires { c.at < length }
+    ensures { result ≡ onward length (head_of c) }
 {
-    if seen::header::size_bad(length, at, c) {
-        return length;
+    if seen::header::size_bad(length, c) {
+        length
+    } else {
+        c.at + c.nbytes as usize
     }
-    at + c.nbytes as usize
 }
 
 // "`walk` prints offset, nbytes and state of each clump": from a place on, as many as the buffer has room for.
@@ -74,8 +75,8 @@ pub fn clumps(img: &[u8], out: &mut [u8; 4096], from: usize) -> Part
     let mut count: usize = 0;
     while one_more(img.len(), at, count) {
         let c = Clump::read(img, at);
-        count = line::three(out, count, at as u64, c.nbytes, c.state);
-        at = behind(img.len(), at, c);
+        count = line::three(out, count, c.at as u64, c.nbytes, c.state);
+        at = behind(img.len(), c);
     }
     Part { count, next: at }
 }

@@ -9,26 +9,27 @@ use Rattle.mend.proofs.release_reserved.Goals as goal
 pub loop-h-init : goal.loop-h-init
 loop-h-init c = passing_start releasing _ _ c.requires.tiled
 
-pub read-c-requires-clause-header_bytes_in_bounds : goal.read-c-requires-clause-header_bytes_in_bounds
-read-c-requires-clause-header_bytes_in_bounds c =
+pub read-c-requires-clause-in_image : goal.read-c-requires-clause-in_image
+read-c-requires-clause-in_image c =
     let k = passing_here c.loop-h.invariant c.loop-h-test.true in omega arith
 
-pub free_reserved-q-requires-clause-header_bytes_in_bounds : goal.free_reserved-q-requires-clause-header_bytes_in_bounds
-free_reserved-q-requires-clause-header_bytes_in_bounds c =
+pub free_reserved-requires-clause-in_image : goal.free_reserved-requires-clause-in_image
+free_reserved-requires-clause-in_image c =
     let k = passing_here c.loop-h.invariant c.loop-h-test.true in omega arith
 
 pub overflow_add-h : goal.overflow_add-h
 overflow_add-h c =
-    let k = passing_here c.loop-h.invariant c.loop-h-test.true in omega (arith, c.read-c.ensures.0, k.room)
+    let k = passing_here c.loop-h.invariant c.loop-h-test.true in omega (arith, c.read-c.ensures.nbytes, k.room)
 
 pub loop-h-smaller : goal.loop-h-smaller
 loop-h-smaller c =
     let k = passing_here c.loop-h.invariant c.loop-h-test.true in
-    omega (arith, c.read-c.ensures.0, k.least, k.room, c.loop-h.invariant.ran.long)
+    omega (arith, c.read-c.ensures.nbytes, k.least, k.room, c.loop-h.invariant.ran.long)
 
 pub loop-h-preserved : goal.loop-h-preserved
 loop-h-preserved c =
-    release_next _ _ c.read-c.ensures.0 c.read-c.ensures.1 c.loop-h-test.true c.loop-h.invariant c.free_reserved-q.ensures
+    release_next _ _ c.read-c.ensures.nbytes c.read-c.ensures.state c.loop-h-test.true c.loop-h.invariant
+    (rw c.read-c.ensures.at at c.free_reserved.ensures)
 
 pub returns : goal.returns
 unfolding releasing those

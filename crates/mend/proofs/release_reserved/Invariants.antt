@@ -6,7 +6,7 @@ use Rattle.mend.specs.Passes.{Passing}
 use Rattle.mend.proofs.release_reserved.Given as goal
 
 abbrev pub invariant-loop-h : goal.invariant-loop-h
-invariant-loop-h l = Passing releasing l.initial.img l.initial.q l.img l.q l.h (releasing (clumps_of l.initial.img))
+invariant-loop-h l = Passing releasing l.initial.img l.initial.p.power l.img l.p.power l.h (releasing (clumps_of l.initial.img))
 
 abbrev pub decreases-loop-h : goal.decreases-loop-h
 decreases-loop-h l = length l.initial.img - l.h

@@ -22,18 +22,20 @@ overflow_add-all c =
     let w = sum_room c.requires _ _ c.free_bytes-next.ensures c.free_bytes-under.ensures in
     omega arith
 
-pub drop_list-p1-requires-clause-in_image : goal.drop_list-p1-requires-clause-in_image
-drop_list-p1-requires-clause-in_image c = list_in _ _ _ c.requires.tiles c.requires.valid
+pub drop_list-requires-clause-targets_in_image : goal.drop_list-requires-clause-targets_in_image
+drop_list-requires-clause-targets_in_image c = list_in _ _ _ c.requires.tiles c.requires.valid
 
-pub store_if-p3-requires-clause-word_bytes_value : goal.store_if-p3-requires-clause-word_bytes_value
-store_if-p3-requires-clause-word_bytes_value c = λ z.
-    let i = below_word c.requires (λ y. z (c.free_bytes-under.ensures ∙ y)) in
-    (i.0, rw (c.store_if-p2.ensures.long, c.drop_list-p1.ensures.long) i.1)
+pub store_if-requires-2-clause-in_image : goal.store_if-requires-2-clause-in_image
+store_if-requires-2-clause-in_image c = λ z.
+    rw (c.store_if.ensures.long, c.drop_list.ensures.long) (below_word c.requires (λ y. z (c.free_bytes-under.ensures ∙ y))).1
+
+pub store_if-requires-2-clause-aligned : goal.store_if-requires-2-clause-aligned
+store_if-requires-2-clause-aligned c = λ z. (below_word c.requires (λ y. z (c.free_bytes-under.ensures ∙ y))).0
 
 pub returns : goal.returns
 returns c =
     release_acts c.requires _ _ _ c.free_bytes-next.ensures c.free_bytes-under.ensures c.new-p.ensures
-    c.drop_list-p1.ensures
-    c.store_if-p2.ensures
-    c.store_if-p3.ensures
+    c.drop_list.ensures
+    c.store_if.ensures
+    c.store_if-2.ensures
     c.finish.ensures

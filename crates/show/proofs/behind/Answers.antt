@@ -10,5 +10,5 @@ returns-then-size_bad c = onward_stops _ _ c.if-size_bad.ensures
 pub overflow_add-result : goal.overflow_add-result
 overflow_add-result c = omega (arith, (size_good _ _ (sym c.if-size_bad.ensures)).2)
 
-pub returns : goal.returns
-returns c = onward_goes _ _ (sym c.if-size_bad.ensures)
+pub returns-else-size_bad : goal.returns-else-size_bad
+returns-else-size_bad c = onward_goes _ _ (sym c.if-size_bad.ensures)

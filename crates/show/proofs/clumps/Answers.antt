@@ -11,14 +11,14 @@ pub loop-c-smaller : goal.loop-c-smaller
 loop-c-smaller c =
     let t = one_more_lem _ _ _ (sym c.loop-c-test.ensures) in
     let w = c.three-count.ensures in
-    let f = filling_next _ _ _ _ c.loop-c.invariant t.0 t.1 c.read-c.ensures w.wrote w.upper_bound (omega arith) c.behind-at.ensures in
+    let f = filling_next _ _ _ _ c.loop-c.invariant t.0 t.1 (c.read-c.ensures.at, c.read-c.ensures.nbytes, c.read-c.ensures.state) w.wrote w.upper_bound (omega arith) c.behind-at.ensures in
     omega (arith, t.0, f.0)
 
 pub loop-c-preserved : goal.loop-c-preserved
 loop-c-preserved c =
     let t = one_more_lem _ _ _ (sym c.loop-c-test.ensures) in
     let w = c.three-count.ensures in
-    (filling_next _ _ _ _ c.loop-c.invariant t.0 t.1 c.read-c.ensures w.wrote w.upper_bound (omega arith) c.behind-at.ensures).1
+    (filling_next _ _ _ _ c.loop-c.invariant t.0 t.1 (c.read-c.ensures.at, c.read-c.ensures.nbytes, c.read-c.ensures.state) w.wrote w.upper_bound (omega arith) c.behind-at.ensures).1
 
 pub returns : goal.returns
 returns c = filling_end c.loop-c.invariant (sym c.loop-c-test.ensures)

@@ -2,6 +2,7 @@
 pub mod Lines
 pub mod Texts
 pub mod Examples
+pub mod Scans
 pub mod Names
 pub mod Numbers
 pub mod Gathering

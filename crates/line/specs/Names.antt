@@ -1,12 +1,15 @@
 -- Laws of the test whether two texts are the same, and of a table of names, each by computing. Assumes nothing.
-use Rattle.std.specs.Prelude.{ℕ, ◌≡◌, refl, true, false, List, [], ◌∷◌}
+use Rattle.std.specs.Prelude.{ℕ, suc, ◌+◌, ◌<◌, ◌≤◌, ◌≡◌, refl, true, false, List, [], ◌∷◌, eqb, length, get_or, drop}
 use Prim.Native.String.{String}
 use Rattle.std.specs.Str.{bytes_eq}
-use Rattle.std.proofs.Common.{sym, ap, ◌∙◌}
+use Rattle.std.proofs.Common.{sym, ap, ◌∙◌, drop_of_length-le}
+use Rattle.std.proofs.Math.Bool.{and-false}
+use borrow.Author.Tests.{eq-eqb, ne_eqb}
 use Rattle.line.specs.declared.Line.{Line}
 use Rattle.line.specs.declared.Line.TheVariants.{Bad}
 use Rattle.rules.specs.Pages.{codes}
 use Rattle.line.specs.Lines.{same, named}
+use Rattle.line.specs.Scans.{drop_next}
 
 -- what `==` answers of two slices
 pub same_is : (xs ys : List ℕ) → same xs ys ≡ bytes_eq xs ys
@@ -29,3 +32,26 @@ module _ (name : List ℕ) (t : String) (l : Line) (es : List (String × Line)) 
 pub named_none : (name : List ℕ) → Bad ≡ named name []
 unfolding named
 named_none name = refl
+
+-- laws that no proof cites now; they stand as they were stated. Texts of different lengths differ
+pub same_length : (xs ys : List ℕ) → (length xs ≡ length ys → ⊥) → same xs ys ≡ false
+unfolding same
+same_length [] [] n = absurd (n refl)
+same_length [] (y ∷ ys) n = refl
+same_length (x ∷ xs) [] n = refl
+same_length (x ∷ xs) (y ∷ ys) n = rw (same_length xs ys (λ e. n (ap suc e))) (and-false (eqb x y))
+
+-- a text held to another from its byte i on
+module _ (ys : List ℕ) (i : ℕ) where
+  pub same_end : length ys ≤ i → same [] (drop i ys) ≡ true
+  unfolding same
+  same_end l = rw (drop_of_length-le ys l)
+
+  module _ (x : ℕ) (xs : List ℕ) (l : i < length ys) where
+    pub same_differs : (x ≡ get_or ys i 0 → ⊥) → same (x ∷ xs) (drop i ys) ≡ false
+    unfolding same
+    same_differs n = rw (drop_next ys i l, ne_eqb x (get_or ys i 0) n)
+
+    pub same_agrees : x ≡ get_or ys i 0 → same (x ∷ xs) (drop i ys) ≡ same xs (drop (i + 1) ys)
+    unfolding same
+    same_agrees e = rw (drop_next ys i l, eq-eqb x (get_or ys i 0) e)

@@ -1,6 +1,6 @@
 -- Laws of the number of a field: what a digit adds, what is no digit, and what lies past 64 bits. Assumes nothing.
-use Rattle.std.specs.Prelude.{ℕ, ◌+◌, ◌-◌, ◌*◌, ◌<◌, ◌≤◌, ◌≡◌, refl, Bool, true, false, Some, None, List, [], ◌∷◌, length, get_or, drop}
-use Rattle.std.proofs.Common.{ap, sym, ◌∙◌, arith, le-ltb, lt-ltb, add-one, drop-cons, drop_of_length-le}
+use Rattle.std.specs.Prelude.{ℕ, ◌+◌, ◌-◌, ◌*◌, ◌<◌, ◌≤◌, ◌≡◌, refl, Bool, true, false, ◌&&◌, Some, None, List, [], ◌∷◌, leb, length, get_or, drop}
+use Rattle.std.proofs.Common.{ap, sym, ◌∙◌, arith, le-ltb, lt-ltb, leb-true, add-one, drop-cons, drop_of_length-le}
 use Rattle.rules.specs.Words.{word_values}
 use Rattle.text.specs.Texts.{zero_digit}
 use Rattle.line.specs.Lines.{is_digit, value_from, in_word, number}
@@ -64,3 +64,13 @@ module _ (s : List ℕ) (n i : ℕ) (inv : in_word (value_from n (drop i s)) ≡
 
       pub number_past : word_values ≤ 10 * n + (get_or s i 0 - zero_digit) → None ≡ number s
       number_past l = sym (value_past n (get_or s i 0) (drop (i + 1) s) e l) ∙ at_byte
+
+-- laws that no proof cites now; they stand as they were stated: a digit is one of ten bytes
+pub digit_range : (b : ℕ) → is_digit b ≡ true → (zero_digit ≤ b) × (b ≤ 57)
+unfolding is_digit
+digit_range b e = go (leb zero_digit b) refl (leb b 57) refl e
+  where
+    go : (t : Bool) → leb zero_digit b ≡ t → (u : Bool) → leb b 57 ≡ u → (t && u) ≡ true → (zero_digit ≤ b) × (b ≤ 57)
+    go true p true q f = (leb-true zero_digit b p, leb-true b 57 q)
+    go true p false q f = absurd (let z : ◌≡◌ {A = ℕ} 0 1 = cc in omega arith)
+    go false p u q f = absurd (let z : ◌≡◌ {A = ℕ} 0 1 = cc in omega arith)

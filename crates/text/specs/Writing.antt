@@ -1,6 +1,6 @@
 -- What is written where in a buffer: the contracts of the code that prints, and their laws. Assumes nothing.
-use Rattle.std.specs.Prelude.{ℕ, suc, ◌+◌, ◌≤◌, ◌≡◌, refl, List, [], ◌∷◌, ◌++◌, length, take, drop, set}
-use Rattle.std.proofs.Common.{sym, ap, ap₂, ◌∙◌, arith, zero-add, add-zero, add-suc, suc-add, length-append, take-append-drop, length-take-le}
+use Rattle.std.specs.Prelude.{ℕ, suc, ◌+◌, ◌<◌, ◌≤◌, ◌≡◌, refl, List, [], ◌∷◌, ◌++◌, length, take, drop, get_or, set}
+use Rattle.std.proofs.Common.{sym, ap, ap₂, ◌∙◌, arith, zero-add, add-zero, add-suc, suc-add, add-one, length-append, take-append-drop, length-take-le, take-suc}
 use Rattle.std.proofs.lemmas.List.Edits.{sets, sets-eq}
 use Rattle.std.proofs.Math.Seq.{length-sets, take-append_seam, drop-append_seam}
 
@@ -63,3 +63,11 @@ begins_determined {y = y} {z = z} {r = r} v w =
 
 pub wrote_determined : {x t y z : List ℕ} {i r s : ℕ} → Wrote x i t y r → Wrote x i t z s → (y ≡ z) × (r ≡ s)
 wrote_determined v w = (v.stands ∙ sym w.stands, v.behind ∙ sym w.behind)
+
+-- laws that no proof cites now; they stand as they were stated: one byte more of another list
+pub wrote_next :
+    {x y : List ℕ} {i k : ℕ} (ds : List ℕ) (j : ℕ)
+    → j < length ds
+    → Wrote x i (take j ds) y k
+    → Wrote x i (take (j + 1) ds) (set y k (get_or ds j 0)) (k + 1)
+wrote_next {y = y} {k = k} ds j l w = rw (add-one j, take-suc ds j 0 l) (wrote_then w (wrote_byte y k (get_or ds j 0)))

@@ -17,8 +17,8 @@ use rules::Answer;
 use walk::Found;
 use word::Fuse;
 
-// A new entry in the list of the clump that was found, behind the last used one, if the clump's state allows it. The mark is added only to a target that
-// is valid, so that the sum does not wrap.
+// A new entry in the list of the clump that was found, behind the last used one, if the clump's state allows it. The mark is added only to a
+// target that is valid, so that the sum does not wrap.
 fn enlist_at(
     img: &mut [u8],
     found: Found,

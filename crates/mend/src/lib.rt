@@ -53,7 +53,7 @@ fn free_reserved(img: &mut [u8], p: &mut Fuse, c: Clump)
     }
 }
 
-// "then each RESERVED to FREE, upward"
+// "then each RESERVED to FREE, upward". It goes by offsets, as `join_runs` does: while it stores nothing can hold the image.
 fn release_reserved(img: &mut [u8], p: &mut Fuse)
     requires tiled { Tiled img.old }
     ensures { Ran img.old p.old.power (releasing (clumps_of img.old)) img.new p.new.power }

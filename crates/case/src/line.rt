@@ -12,7 +12,8 @@ pub enum Reading {
     Malformed,
 }
 
-// Room for the numbers of a line, and how many of them are whole. What stands behind those is of lines before.
+// Room for the numbers of a line, and how many of them are whole. What stands behind those is 0 or of lines before. (An array with a count: there
+// is no heap here.)
 #[derive(Clone, Copy)]
 pub struct Numbers {
     pub items: [u64; 256],

@@ -6,7 +6,7 @@ use Rattle.text.specs.Texts.{space}
 use Rattle.line.specs.Lines.{fields, is_digit, value_from, number}
 use Rattle.line.specs.Numbers.{value_stops, value_goes}
 
--- laws that no proof cites now; they stand as they were stated. Where the first space of a text stands, or the text's length
+-- laws that no function's proof cites now; they stand as they were stated. Where the first space of a text stands, or the text's length
 unfoldable pub space_at : List ℕ → ℕ
 space_at [] = 0
 space_at (b ∷ bs) = elim (eqb b space) [ true ↦ 0 | false ↦ suc (space_at bs) ]
@@ -25,7 +25,7 @@ module _ (b : ℕ) (bs : List ℕ) where
 abbrev pub Whole : List ℕ → Type 0
 Whole s = space_at s ≡ length s
 
--- the empty text has None, nor has one that starts with another byte and goes on without
+-- the empty text has none, nor has one that starts with another byte and goes on without
 whole_nil : Whole []
 unfolding space_at
 whole_nil = refl

@@ -44,7 +44,7 @@ module _ (name : List ℕ) (o t : ℕ) (s : List ℕ) where
       whole_or_not s (λ w. rw (fields_one s w, e))
       (λ w. absurd (let n = number-space s w in let z : ◌≡◌ {A = ℕ} 0 1 = cc in omega arith))
 
--- a text whose first space stands at e, or that has None and e bytes
+-- a text whose first space stands at e, or that has none and e bytes
 module _ (s : List ℕ) (e : ℕ) (at : e ≡ space_at s) where
   last-field : e ≡ length s → fields s ≡ take e s ∷ []
   last-field l = rw (l, take-length) (fields_one s (sym at ∙ l))

@@ -19,19 +19,27 @@ same_is [] (y ∷ ys) = refl
 same_is (x ∷ xs) [] = refl
 same_is (x ∷ xs) (y ∷ ys) = rw (same_is xs ys)
 
--- a table answers at the entry that has the name, and is passed by at one that has not; s is the text that `==` was asked of
-module _ (name : List ℕ) (t : String) (l : Line) (es : List (String × Line)) {s : List ℕ} (e : s ≡ codes t) where
-  pub named_hit : true ≡ bytes_eq name s → l ≡ named name ((t, l) ∷ es)
+-- a table answers at the entry that has the name, and is passed by at one that has not
+module _ (name : List ℕ) (t : String) (l : Line) (es : List (String × Line)) where
+  pub named_hit : same name (codes t) ≡ true → named name ((t, l) ∷ es) ≡ l
   unfolding named
-  named_hit q = rw (same_is name (codes t) ∙ sym (q ∙ ap (bytes_eq name) e), named)
+  named_hit e = rw (e, named)
 
-  pub named_pass : (r : Line) → false ≡ bytes_eq name s → r ≡ named name es → r ≡ named name ((t, l) ∷ es)
+  pub named_pass : same name (codes t) ≡ false → named name ((t, l) ∷ es) ≡ named name es
   unfolding named
-  named_pass r q f = rw (same_is name (codes t) ∙ sym (q ∙ ap (bytes_eq name) e), named) f
+  named_pass e = rw (e, named)
 
-pub named_none : (name : List ℕ) → Bad ≡ named name []
+pub named_none : (name : List ℕ) → named name [] ≡ Bad
 unfolding named
 named_none name = refl
+
+-- the same by what `==` answered of s, which is the text of the name: the line answered by a table is the entry's, or that of the table's rest
+module _ (name : List ℕ) (t : String) (l : Line) (es : List (String × Line)) {s : List ℕ} (e : s ≡ codes t) where
+  pub entry_hit : true ≡ bytes_eq name s → l ≡ named name ((t, l) ∷ es)
+  entry_hit q = sym (named_hit name t l es (same_is name (codes t) ∙ sym (q ∙ ap (bytes_eq name) e)))
+
+  pub entry_pass : (r : Line) → false ≡ bytes_eq name s → r ≡ named name es → r ≡ named name ((t, l) ∷ es)
+  entry_pass r q f = f ∙ sym (named_pass name t l es (same_is name (codes t) ∙ sym (q ∙ ap (bytes_eq name) e)))
 
 -- laws that no proof cites now; they stand as they were stated. Texts of different lengths differ
 pub same_length : (xs ys : List ℕ) → (length xs ≡ length ys → ⊥) → same xs ys ≡ false

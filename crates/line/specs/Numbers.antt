@@ -1,5 +1,5 @@
 -- Laws of the number of a field: what a digit adds, what is no digit, and what lies past 64 bits. Assumes nothing.
-use Rattle.std.specs.Prelude.{ℕ, ◌+◌, ◌-◌, ◌*◌, ◌<◌, ◌≤◌, ◌≡◌, refl, Bool, true, false, ◌&&◌, Some, None, List, [], ◌∷◌, leb, length, get_or, drop}
+use Rattle.std.specs.Prelude.{ℕ, ◌+◌, ◌-◌, ◌*◌, ◌/◌, ◌<◌, ◌≤◌, ◌≡◌, refl, Bool, true, false, ◌&&◌, Option, Some, None, List, [], ◌∷◌, leb, length, get_or, drop}
 use Rattle.std.proofs.Common.{ap, sym, ◌∙◌, arith, le-ltb, lt-ltb, leb-true, add-one, drop-cons, drop_of_length-le}
 use Rattle.rules.specs.Words.{word_values}
 use Rattle.text.specs.Texts.{zero_digit}
@@ -41,8 +41,8 @@ past_word (b ∷ bs) n l = go (is_digit b) refl (past_word bs)
     go false e ih = rw (value_stops n b bs e)
 
 -- a digit that the value has no room for
-pub value_past : (n b : ℕ) (bs : List ℕ) → is_digit b ≡ true → word_values ≤ 10 * n + (b - zero_digit) → in_word (value_from n (b ∷ bs)) ≡ None
-value_past n b bs e l = rw (value_goes n b bs e) (past_word bs (10 * n + (b - zero_digit)) l)
+digit_past : (n b : ℕ) (bs : List ℕ) → is_digit b ≡ true → word_values ≤ 10 * n + (b - zero_digit) → in_word (value_from n (b ∷ bs)) ≡ None
+digit_past n b bs e l = rw (value_goes n b bs e) (past_word bs (10 * n + (b - zero_digit)) l)
 
 -- a field at its byte i: n is the value of the digits before it, and what is left decides
 module _ (s : List ℕ) (n i : ℕ) (inv : in_word (value_from n (drop i s)) ≡ number s) where
@@ -63,7 +63,7 @@ module _ (s : List ℕ) (n i : ℕ) (inv : in_word (value_from n (drop i s)) ≡
       number_goes = ap in_word (sym (value_goes n (get_or s i 0) (drop (i + 1) s) e)) ∙ at_byte
 
       pub number_past : word_values ≤ 10 * n + (get_or s i 0 - zero_digit) → None ≡ number s
-      number_past l = sym (value_past n (get_or s i 0) (drop (i + 1) s) e l) ∙ at_byte
+      number_past l = sym (digit_past n (get_or s i 0) (drop (i + 1) s) e l) ∙ at_byte
 
 -- laws that no proof cites now; they stand as they were stated: a digit is one of ten bytes
 pub digit_range : (b : ℕ) → is_digit b ≡ true → (zero_digit ≤ b) × (b ≤ 57)
@@ -74,3 +74,14 @@ digit_range b e = go (leb zero_digit b) refl (leb b 57) refl e
     go true p true q f = (leb-true zero_digit b p, leb-true b 57 q)
     go true p false q f = absurd (let z : ◌≡◌ {A = ℕ} 0 1 = cc in omega arith)
     go false p u q f = absurd (let z : ◌≡◌ {A = ℕ} 0 1 = cc in omega arith)
+
+-- a digit that the value has no room for, as a test before the sum finds it
+pub value_past : (n b : ℕ) (bs : List ℕ) → is_digit b ≡ true → (word_values - 1 - (b - zero_digit)) / 10 < n → in_word (value_from n (b ∷ bs)) ≡ None
+value_past n b bs e l = let d = digit_range b e in digit_past n b bs e (omega arith)
+
+-- what an answer that is the number says of it
+pub number_not : (o r : Option ℕ) → r ≡ o → r ≡ None → o ≡ None
+number_not o r p q = sym p ∙ q
+
+pub number_is : (o r : Option ℕ) (n : ℕ) → r ≡ o → r ≡ Some n → o ≡ Some n
+number_is o r n p q = sym p ∙ q

@@ -3,7 +3,7 @@
 use Rattle.std.specs.Prelude.{ℕ, ◌+◌, ◌<◌, ◌≤◌, ◌≡◌, List, [], ◌∷◌, length, get_or, drop}
 use Rattle.std.proofs.Common.{sym, ap, ◌∙◌, arith, add-one, drop_of_length-le, drop-cons}
 
--- laws that no proof cites now; they stand as they were stated
+-- laws that no function's proof cites now; they stand as they were stated
 pub record Scan {A : Type 0} (f : List ℕ → A) (s : List ℕ) (i : ℕ) (g : A) : Type 0 where
   pub bound : i ≤ length s
   pub same : f (drop i s) ≡ g

@@ -20,7 +20,8 @@ fn word_lies(n: usize, at: u64) -> bool
     at % 8 == 0 && n >= 8 && at <= (n - 8) as u64
 }
 
-// The words of a case put into its image, each with power for one store; none where one cannot lie there.
+// The words of a case put into its image, each with power for one store; none where one cannot lie there. (By index, as `words` and
+// `all_lie` count.)
 fn put_words(img: &mut [u8], numbers: &Numbers, count: usize) -> Option<()>
     requires { count ≤ most_words }
     ensures value { is_some result ≡ all_lie (length img.old) numbers.now.items count }

@@ -32,7 +32,7 @@ fn see_clump(img: &[u8], s: Seen, h: usize) -> Seen
     s.take(n, Clump::read(img, h), Clump::list(img, h))
 }
 
-// The one walk, up to the first of the faults 1 to 3.
+// The one walk, up to the first of the faults 1 to 3. It goes by offsets, since the clumps of any bytes need not tile.
 pub fn see(img: &[u8]) -> Seen
     ensures { result ≡ seen (length img.now) (mem img.now) (clumps_of img.now) }
 {

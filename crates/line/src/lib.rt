@@ -2,7 +2,7 @@
 // `reply` has how a reply is printed. Nothing here reads input or writes output.
 #![tactic(auto)]
 
-ghost use Rattle.std.specs.Prelude.{◌≡◌, [], ◌∷◌, ◌≤◌, length};
+ghost use Rattle.std.specs.Prelude.{◌≡◌, [], ◌∷◌, length};
 ghost use Rattle.line.specs.Lines.{number, named, commands, line_of, fuse_after};
 ghost use Rattle.line.specs.Gathering.{kept, Gathered};
 

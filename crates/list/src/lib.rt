@@ -1,7 +1,7 @@
 // Onactive and onfree: a new entry in the on-list of a clump. Each takes any bytes, any numbers and any fuse.
 #![tactic(auto)]
 
-ghost use Rattle.std.specs.Prelude.{◌≡◌, ◌+◌, ◌<◌, length};
+ghost use Rattle.std.specs.Prelude.{◌+◌, ◌<◌, length};
 ghost use Rattle.rules.specs.declared.Request.TheVariants.{Onactive, Onfree};
 ghost use Rattle.rules.specs.Words.{mem};
 ghost use Rattle.rules.specs.Clumps.{head, bit_values};

@@ -53,7 +53,7 @@ fn free_reserved(img: &mut [u8], p: &mut Fuse, c: Clump)
     }
 }
 
-// "then each RESERVED to FREE, upward". It goes by offsets, as `join_runs` does: while it stores nothing can hold the image.
+// "then each RESERVED to FREE, upward". It goes by offsets, as `join_runs` does: while it stores, nothing else can hold the image.
 fn release_reserved(img: &mut [u8], p: &mut Fuse)
     requires tiled { Tiled img.old }
     ensures { Ran img.old p.old.power (releasing (clumps_of img.old)) img.new p.new.power }
@@ -95,7 +95,8 @@ fn next_run(run: Option<Open>, c: Clump) -> Option<Open>
     }
 }
 
-// The store at the end of a run that has more than its first clump: it ends where the state is not FREE.
+// The store at the end of a run that has more than its first clump: it ends where the state of the clump that comes is not FREE, and so at the
+// end of the image, where the state of no FREE clump is handed over.
 fn store_run(img: &mut [u8], p: &mut Fuse, run: Option<Open>, state: u64)
     requires { OpenRun (length img.old) run }
     ensures { Ran img.old p.old.power (cond (eqb state FREE) [] (open_store run)) img.new p.new.power }

@@ -1,7 +1,7 @@
 // One clump by the words of its header: whether its list waits, whether it is unfinished, and the first of the faults 1 to 3. Asks for the
 // image's length beside them, and for no image.
 ghost use Rattle.std.specs.Prelude.{◌≡◌, ◌||◌, ◌≤◌, eqb};
-ghost use Rattle.rules.specs.Clumps.{ACTIVATING, FREEING, RESERVED, ACTIVE, target_of};
+ghost use Rattle.rules.specs.Clumps.{ACTIVATING, FREEING, RESERVED, ACTIVE};
 ghost use Rattle.rules.specs.Sound.{size_bad, in_place};
 ghost use Rattle.page.specs.Forms.{head_of, list_passes};
 ghost use Rattle.seen.specs.Forms.{list_bad_in, fault_in, number_in};

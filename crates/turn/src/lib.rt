@@ -2,7 +2,7 @@
 // bytes, any numbers and any fuse.
 #![tactic(auto)]
 
-ghost use Rattle.std.specs.Prelude.{◌≡◌, length};
+ghost use Rattle.std.specs.Prelude.{length};
 ghost use Rattle.rules.specs.declared.Request.TheVariants.{Activate};
 ghost use Rattle.rules.specs.Words.{mem};
 ghost use Rattle.rules.specs.Clumps.{head};

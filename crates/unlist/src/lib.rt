@@ -1,7 +1,7 @@
 // Withdraw: the last used entry of a clump's on-list emptied. It takes any bytes, any numbers and any fuse.
 #![tactic(auto)]
 
-ghost use Rattle.std.specs.Prelude.{◌≡◌, length};
+ghost use Rattle.std.specs.Prelude.{length};
 ghost use Rattle.rules.specs.declared.Request.TheVariants.{Withdraw};
 ghost use Rattle.rules.specs.Words.{mem};
 ghost use Rattle.rules.specs.Clumps.{head};

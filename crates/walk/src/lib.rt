@@ -2,10 +2,10 @@
 // that is judged sound: it may be called once `judge` has found no fault. `clumps` has the clumps of an image one after the other.
 #![tactic(auto)]
 
-ghost use Rattle.std.specs.Prelude.{◌≡◌, ◌||◌, ◌+◌, ◌%◌, ◌≤◌, ◌<◌, length, eqb};
+ghost use Rattle.std.specs.Prelude.{◌≡◌, ◌||◌, ◌+◌, ◌%◌, ◌≤◌, ◌<◌, length};
 ghost use Rattle.rules.specs.Lists.{seek, any};
 ghost use Rattle.rules.specs.Words.{word_bytes, mem};
-ghost use Rattle.rules.specs.Clumps.{header_bytes, target_of, offset_of};
+ghost use Rattle.rules.specs.Clumps.{header_bytes, offset_of};
 ghost use Rattle.rules.specs.Sound.{lies, holds_word, is_valid};
 ghost use Rattle.rules.specs.Stores.{need_of, fits};
 ghost use Rattle.rules.specs.Requests.{finding};
@@ -48,7 +48,8 @@ fn suits(c: Clump, size: u64) -> bool
     c.state == Clump::FREE && need::room(c.nbytes, size)
 }
 
-// "The scan stops at the first FREE clump with nbytes at least need": its header's offset, or the image's length as an end mark.
+// "The scan stops at the first FREE clump with nbytes at least need": its header's offset, or the image's length as an end mark. (01 has this walk
+// as a loop left by break.)
 pub fn first_fit(img: &[u8], size: u64) -> usize
     requires { Tiled img.now }
     ensures { result ≡ offset_of (length img.now) (seek (fits (need_of size)) (clumps_of img.now)) }

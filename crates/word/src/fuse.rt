@@ -1,12 +1,13 @@
 // A fuse that burns, and the one function that stores a word while it lasts: "It carries a fuse, the number of stores that
 // the power lasts for".
 // Asks that the word lies in the image, at an offset that is divisible by 8.
-ghost use Rattle.std.specs.Prelude.{◌≡◌, cond, [], ◌∷◌, ◌+◌, ◌%◌, ◌≤◌, ◌<◌, min, max, eqb, length};
+ghost use Rattle.std.specs.Prelude.{◌≡◌, cond, [], ◌∷◌, ◌+◌, ◌%◌, ◌≤◌, ◌<◌, min, eqb, length};
 ghost use Rattle.rules.specs.Words.{word_bytes, word_values, store};
 
 use crate::{Power, set, witness};
 
-// The power of a request under way. What it made and what it has left are together what it was lit with, so that no count wraps.
+// The power of a request under way. What it made and what it has left stay together below 2^64, as they are when it is lit, so that no count
+// wraps.
 #[derive(Drop)]
 pub struct Fuse {
     pub power: Power,
@@ -42,13 +43,7 @@ impl Fuse {
         let from = lowest(p.from, p.to, at as u64);
         let to = p.to.max(at as u64 + 8);
         if p.left == 0 {
-            self.power = Power {
-                left: 0,
-                made: p.made,
-                cut: true,
-                from: p.from,
-                to: p.to,
-            };
+            self.power.cut = true;
             return;
         }
         set(img, at, w);
@@ -56,9 +51,9 @@ impl Fuse {
         self.power = Power {
             left: p.left - 1,
             made: p.made + 1,
-            cut: p.cut,
             from,
             to,
+            ..p
         };
     }
 }

@@ -11,11 +11,11 @@ use text::NEWLINE;
 
 // What is held from byte to byte: of the line so far the bytes that are kept, which are the buffer's first `count`, and the fuse of the
 // next request.
-#[derive(Drop)]
+#[derive(Clone, Copy)]
 pub struct Held {
     buf: [u8; 201],
-    count: usize,
-    fuse: u64,
+    pub count: usize,
+    pub fuse: u64,
     ghost room: { count ≤ kept },
 }
 
@@ -72,12 +72,13 @@ impl Held {
     }
 
     // The end of the input: a last line that no newline ended counts if it has a byte.
-    pub fn rest(&mut self, rt: &(impl Print + Eprint), img: &mut [u8]) -> Result<(), Told>
-        ensures { (s : Dialogue) → Stands img.old self.old s → img.new ≡ (line_ended s).image }
+    pub fn rest(&self, rt: &(impl Print + Eprint), img: &mut [u8]) -> Result<(), Told>
+        ensures { (s : Dialogue) → Stands img.old self.now s → img.new ≡ (line_ended s).image }
     {
         if self.count == 0 {
             return Ok(());
         }
-        self.line_end(rt, img)
+        let mut last = *self;
+        last.line_end(rt, img)
     }
 }

@@ -9,6 +9,7 @@ use Rattle.std.proofs.Math.Option.{Option, some, none}
 use mathlib.Core.List.{List, [], ◌∷◌}
 use native.Mathlib.Omega.{arith}
 use borrow.Author.Tests.{ne_eqb, eqb-true}
+use Rattle.rules.specs.Lists.{Each}
 use Rattle.rules.specs.Words.{Mem}
 use Rattle.rules.specs.Clumps.{Head, has_state, FREE, RESERVED, ACTIVATING, ACTIVE, FREEING}
 use Rattle.rules.specs.Sound.{Fault, fault_of, clump_fault}
@@ -91,6 +92,28 @@ module _ (n : ℕ) (m : Mem) where
       go : (f : ℕ) → fault_of n m h ≡ f → (clump_fault n m hs ≡ none → until_fault n m hs ≡ hs) → until_fault n m (h ∷ hs) ≡ h ∷ hs
       go zero p ih = rw p (ap (λ (q : List Head). h ∷ q) (ih (sym (clump_pass n m h hs p) ∙ e)))
       go (suc k) p ih = some-none (clump_hit n m h hs (suc k) (sym p) (λ x. omega arith)) e
+
+  -- what holds of every clump holds of those (no proof cites it any more)
+  until_each : (P : Head → Type 0) (hs : List Head) → Each P hs → Each P (until_fault n m hs)
+  unfolding until_fault
+  until_each P [] l = tt
+  until_each P (h ∷ hs) l = go (eqb (fault_of n m h) 0) (until_each P hs l.1)
+    where
+      go : (b : Bool) → Each P (until_fault n m hs) → Each P (cond b (h ∷ until_fault n m hs) [])
+      go true r = (l.0, r)
+      go false r = tt
+
+  -- no fault has the number 0 (no proof cites it any more, since an Option tells of no fault by None)
+  fault-number : (hs : List Head) (f : Fault) → clump_fault n m hs ≡ some f → f.number ≡ 0 → ⊥
+  fault-number [] f e z = some-none e (clump_end n m)
+  fault-number (h ∷ hs) f e z = go (fault_of n m h) refl (λ p. fault-number hs f p z)
+    where
+      go : (k : ℕ) → fault_of n m h ≡ k → (clump_fault n m hs ≡ some f → ⊥) → ⊥
+      go zero p ih = ih (sym (clump_pass n m h hs p) ∙ e)
+      go (suc k) p ih =
+          let q = clump_hit n m h hs (suc k) (sym p) (λ x. omega arith) in
+          let i : suc k ≡ f.number = cc in
+          omega arith
 
 -- whatever clumps they are
 pub seen-after : (n : ℕ) (m : Mem) (hs : List Head) → After n m hs (seen n m hs)

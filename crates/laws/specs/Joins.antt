@@ -1,5 +1,6 @@
 -- The runs of touching FREE clumps, joined in one walk upward. The walk keeps the run that it is in: where it starts, the nbytes of its
--- first clump and the sum so far, all 0 outside a run. It stores at the end of a run that has more than its first clump.
+-- first clump and the sum so far, all 0 outside a run (where the code has no run, and `mend` reads its numbers as 0). It stores at the end
+-- of a run that has more than its first clump.
 -- By induction on the clumps, inside a run and outside one together. Assumes nothing.
 use Rattle.std.specs.Prelude.{ℕ, ◌+◌, ◌<◌, ◌≤◌, ◌≡◌, refl, Bool, true, false, cond, List, [], ◌∷◌, ◌++◌, eqb}
 use Rattle.std.proofs.Common.{ap, ◌∙◌, arith, eq-eqb, ne_eqb}

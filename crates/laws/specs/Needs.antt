@@ -17,7 +17,7 @@ pub need_even : (size : ℕ) → need_of size % unit ≡ 0
 unfolding need_of
 need_even size = omega arith
 
--- as the code computes it
+-- rounded up by quotients (no proof cites it now; it stands as it was stated)
 pub need_is : (size : ℕ) → 64 + (size / 64 + (size % 64 + 63) / 64) * 64 ≡ need_of size
 unfolding need_of
 need_is size = omega arith

@@ -98,7 +98,8 @@ before_is a b (k ∷ j ∷ p) h q t =
     let w = r.2.0.here in
     elsewhere end_of h.at k (j ∷ (p ++ (h ∷ q))) (omega arith) ∙ before_is (a + k.nbytes) b (j ∷ p) h q t.1
 
--- a walk that has come to h: the last clump that it has passed stands at b, which is 0 where it has passed none
+-- a walk that has come to h: the last clump that it has passed stands at b, which is 0 where it has passed none. No function's proof cites
+-- these laws now; they stand as they were stated
 pub record Passed (n : ℕ) (m : Mem) (h b : ℕ) : Type 0 where
   pub lower : List Head
   pub higher : List Head

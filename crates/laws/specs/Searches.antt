@@ -123,7 +123,7 @@ module _ {A : Type 0} where
   each_take P (suc k) [] f = tt
   each_take P (suc k) (x ∷ xs) f = (f.0, each_take P k xs f.1)
 
-  -- some element passes exactly where a search finds one
+  -- some element passes exactly where a search finds one (no proof cites the first two of these now; they stand as they were stated)
   pub any_hit : (p : A → Bool) (x : A) (xs : List A) → p x ≡ true → any p (x ∷ xs) ≡ true
   unfolding any
   any_hit p x xs e = rw e

@@ -52,6 +52,7 @@ heads_low (suc k) n a m l = go (ltb a n) (heads_low k n (a + m a) m (omega arith
     go true r = (l, r)
     go false r = tt
 
+-- (no proof cites it now; it stands as it was stated)
 pub walk_low : (n : ℕ) (m : Mem) → Each Low (walk n m)
 unfolding walk
 walk_low n m = heads_low n n clumps_at m (omega arith)

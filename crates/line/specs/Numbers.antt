@@ -79,7 +79,7 @@ digit_range b e = go (leb zero_digit b) refl (leb b 57) refl e
 pub value_past : (n b : ℕ) (bs : List ℕ) → is_digit b ≡ true → (word_values - 1 - (b - zero_digit)) / 10 < n → in_word (value_from n (b ∷ bs)) ≡ None
 value_past n b bs e l = let d = digit_range b e in digit_past n b bs e (omega arith)
 
--- what an answer that is the number says of it
+-- what an answer that is the number says of it; the code's answer is the rule's Option now (no proof cites these)
 pub number_not : (o r : Option ℕ) → r ≡ o → r ≡ None → o ≡ None
 number_not o r p q = sym p ∙ q
 

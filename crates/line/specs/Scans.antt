@@ -1,4 +1,4 @@
--- One law for every loop over the bytes of a text. At byte i a question f of the bytes that are left still has the answer g of the
+-- One law for a loop over the bytes of a text by index. At byte i a question f of the bytes that are left still has the answer g of the
 -- whole text: a loop starts so, keeps it so at each byte, and reads its answer off it at the end or at a hit. Assumes nothing.
 use Rattle.std.specs.Prelude.{ℕ, ◌+◌, ◌<◌, ◌≤◌, ◌≡◌, List, [], ◌∷◌, length, get_or, drop}
 use Rattle.std.proofs.Common.{sym, ap, ◌∙◌, arith, add-one, drop_of_length-le, drop-cons}

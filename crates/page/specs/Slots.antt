@@ -115,7 +115,8 @@ module _ (q : ℕ → Bool) where
   passes_all [] = refl
   passes_all (e ∷ l) = ap (λ (x : Bool). entry_passes q e && x) (passes_all l)
 
-  -- a loop over the list: what is left of it still has the answer of the whole
+  -- a loop over the list: what is left of it still has the answer of the whole. No proof cites these laws now; they stand as they were
+  -- stated
   module _ (l : List (List ℕ)) (i : ℕ) (u : i < length l) (w : list_passes q (drop i l) ≡ list_passes q l) where
     here : list_passes q (drop i l) ≡ ((eqb (word_of (get_or l i [])) 0 || q (target_of (word_of (get_or l i [])))) && list_passes q (drop (i + 1) l))
     unfolding list_passes

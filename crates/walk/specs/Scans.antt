@@ -21,7 +21,7 @@ use Rattle.page.specs.Forms.{word_of, list_at, only_in, due_in, list_passes, InI
 use Rattle.page.specs.Slots.{due_is, passes_by}
 use Rattle.walk.specs.declared.Found.{Found}
 
--- the word at t in a up to b
+-- the word at t in a up to b: laws that no proof cites now; they stand as they were stated
 pub lies_below : (a b t : ℕ) → t < a → false ≡ lies a b t
 lies_below a b t l = rw (lt-leb a t l)
 

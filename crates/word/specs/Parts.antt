@@ -7,7 +7,7 @@ use Rattle.std.proofs.Math.Seq.{set_out}
 use Rattle.std.proofs.lemmas.Bool.{eqb-false}
 use Rattle.rules.specs.Words.{Image, Bytes, byte_values, le, puts, word_at, put}
 
--- the code's halves
+-- by halves: laws that no function's proof cites now; they stand as they were stated
 pub le4 : (s : Image) (i : ℕ) → le 4 s i ≡ le 2 s i + 65536 * le 2 s (i + 2)
 unfolding le
 le4 s i = simp add_assoc (omega arith)

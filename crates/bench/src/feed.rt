@@ -71,7 +71,9 @@ impl Held {
         Ok(())
     }
 
-    // The end of the input: a last line that no newline ended counts if it has a byte.
+    // The end of the input: a last line that no newline ended counts if it has a byte. (It is asked for once, at the end of a run, and what is
+    // held stays as it is. Kept out of the loop of `run`, which is then as small as it was.)
+    #[inline(never)]
     pub fn rest(&self, rt: &(impl Print + Eprint), img: &mut [u8]) -> Result<(), Told>
         ensures { (s : Dialogue) → Stands img.old self.now s → img.new ≡ (line_ended s).image }
     {

@@ -71,8 +71,9 @@ impl Held {
         Ok(())
     }
 
-    // The end of the input: a last line that no newline ended counts if it has a byte. (It is asked for once, at the end of a run, and what is
-    // held stays as it is. Kept out of the loop of `run`, which is then as small as it was.)
+    // The end of the input: a last line that no newline ended counts if it has a byte. What is held stays as it is. (The hint is for the place
+    // that the code after `run` gets in the program: inlined there, this moved the loop of the padding test across a cache line, and a
+    // request on a pool that is almost empty took a third more time; docs/LOOK-BACK.md.)
     #[inline(never)]
     pub fn rest(&self, rt: &(impl Print + Eprint), img: &mut [u8]) -> Result<(), Told>
         ensures { (s : Dialogue) → Stands img.old self.now s → img.new ≡ (line_ended s).image }

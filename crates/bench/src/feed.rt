@@ -35,7 +35,9 @@ impl Held {
         }
     }
 
-    // The line that is held ends.
+    // The line that is held ends. (The hint says that few bytes end a line: without it the machine code jumps twice at each byte that ends
+    // none; docs/LOOK-BACK.md, d1.)
+    #[cold]
     fn line_end(&mut self, rt: &(impl Print + Eprint), img: &mut [u8]) -> Result<(), Told>
         ensures img_after { img.new ≡ image_after img.old (line_of (take self.old.count self.old.buf)) self.old.fuse }
         ensures fuse_value { self.new.fuse ≡ fuse_after self.old.fuse (line_of (take self.old.count self.old.buf)) }

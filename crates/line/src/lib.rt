@@ -3,7 +3,7 @@
 #![tactic(auto)]
 
 ghost use Rattle.std.specs.Prelude.{◌≡◌, [], ◌∷◌, length};
-ghost use Rattle.line.specs.Lines.{number, named, commands, line_of, fuse_after};
+ghost use Rattle.line.specs.Lines.{number, same, named, commands, line_of, fuse_after};
 ghost use Rattle.line.specs.Gathering.{kept, Gathered};
 
 use rules::Request;
@@ -59,16 +59,23 @@ fn value(field: &[u8]) -> Option<u64>
     Some(n)
 }
 
+// Whether two texts are the same, byte for byte. (Not by `==`: with it a line such as `fuse 5` took longer; docs/LOOK-BACK.md, d1.)
+fn same(a: &[u8], b: &[u8]) -> bool
+    ensures { result ≡ same a.now b.now }
+{
+    a.len() == b.len() && a.iter().zip(b).all(|(x, y)| x == y)
+}
+
 // The line of a name alone.
-#[tactic(auto, using(crate::specs::Names::same_is), unfolding(crate::specs::Lines::named, crate::specs::Lines::commands, rules::specs::Pages::codes))]
+#[tactic(auto, unfolding(crate::specs::Lines::named, crate::specs::Lines::commands, rules::specs::Pages::codes))]
 fn alone(name: &[u8]) -> Line
     ensures { result ≡ named name.now (commands []) }
 {
-    if name == b"recover".as_slice() {
+    if same(name, b"recover") {
         Line::Ask {
             q: Request::Recover,
         }
-    } else if name == b"walk".as_slice() {
+    } else if same(name, b"walk") {
         Line::Walk
     } else {
         Line::Bad
@@ -79,27 +86,27 @@ fn alone(name: &[u8]) -> Line
 fn with_one(name: &[u8], n: u64) -> Line
     ensures { result ≡ named name.now (commands (n ∷ [])) }
 {
-    if name == b"reserve".as_slice() {
+    if same(name, b"reserve") {
         Line::Ask {
             q: Request::Reserve { size: n },
         }
-    } else if name == b"reserve_uncleared".as_slice() {
+    } else if same(name, b"reserve_uncleared") {
         Line::Ask {
             q: Request::ReserveUncleared { size: n },
         }
-    } else if name == b"withdraw".as_slice() {
+    } else if same(name, b"withdraw") {
         Line::Ask {
             q: Request::Withdraw { offset: n },
         }
-    } else if name == b"activate".as_slice() {
+    } else if same(name, b"activate") {
         Line::Ask {
             q: Request::Activate { offset: n },
         }
-    } else if name == b"free".as_slice() {
+    } else if same(name, b"free") {
         Line::Ask {
             q: Request::Free { offset: n },
         }
-    } else if name == b"fuse".as_slice() {
+    } else if same(name, b"fuse") {
         Line::Fuse { k: n }
     } else {
         Line::Bad
@@ -107,11 +114,11 @@ fn with_one(name: &[u8], n: u64) -> Line
 }
 
 // The line of a name, an offset and a size.
-#[tactic(auto, using(crate::specs::Names::same_is), unfolding(crate::specs::Lines::named, crate::specs::Lines::commands, rules::specs::Pages::codes))]
+#[tactic(auto, unfolding(crate::specs::Lines::named, crate::specs::Lines::commands, rules::specs::Pages::codes))]
 fn with_two(name: &[u8], offset: u64, size: u64) -> Line
     ensures { result ≡ named name.now (commands (offset ∷ size ∷ [])) }
 {
-    if name == b"grow".as_slice() {
+    if same(name, b"grow") {
         Line::Ask {
             q: Request::Grow { offset, size },
         }
@@ -121,11 +128,11 @@ fn with_two(name: &[u8], offset: u64, size: u64) -> Line
 }
 
 // The line of a name, an offset, a target and a value.
-#[tactic(auto, using(crate::specs::Names::same_is), unfolding(crate::specs::Lines::named, crate::specs::Lines::commands, rules::specs::Pages::codes))]
+#[tactic(auto, unfolding(crate::specs::Lines::named, crate::specs::Lines::commands, rules::specs::Pages::codes))]
 fn with_three(name: &[u8], offset: u64, target: u64, value: u64) -> Line
     ensures { result ≡ named name.now (commands (offset ∷ target ∷ value ∷ [])) }
 {
-    if name == b"onactive".as_slice() {
+    if same(name, b"onactive") {
         Line::Ask {
             q: Request::Onactive {
                 offset,
@@ -133,7 +140,7 @@ fn with_three(name: &[u8], offset: u64, target: u64, value: u64) -> Line
                 value,
             },
         }
-    } else if name == b"onfree".as_slice() {
+    } else if same(name, b"onfree") {
         Line::Ask {
             q: Request::Onfree {
                 offset,

@@ -1,62 +1,69 @@
 -- `with_one`: the table of names that take one number, entry by entry.
-use Rattle.std.proofs.Common.{sym}
+use Rattle.std.proofs.Common.{sym, ◌∙◌}
 use Rattle.rules.specs.Pages.{codes}
 use Rattle.line.specs.Lines.{commands}
-use Rattle.line.specs.Names.{entry_hit, entry_pass, named_none}
+use Rattle.line.specs.Names.{named_hit, named_pass, named_none}
 use Rattle.line.proofs.with_one.Goals as goal
 
-pub returns-then-eq : goal.returns-then-eq
+pub returns-then-same : goal.returns-then-same
 unfolding commands codes
-returns-then-eq c =
-    entry_hit _ _ _ _ c.as_slice.ensures c.if-eq.ensures
+returns-then-same c =
+    sym
+    (named_hit _ _ _ _ (sym c.if-same.ensures))
 
-pub returns-then-eq-2 : goal.returns-then-eq-2
+pub returns-then-same-2 : goal.returns-then-same-2
 unfolding commands codes
-returns-then-eq-2 c =
-    entry_pass _ _ _ _ c.as_slice.ensures _ c.if-eq.ensures
-    (entry_hit _ _ _ _ c.as_slice-else-eq.ensures c.if-eq-2.ensures)
+returns-then-same-2 c =
+    sym
+    (named_pass _ _ _ _ (sym c.if-same.ensures)
+    ∙ named_hit _ _ _ _ (sym c.if-same-2.ensures))
 
-pub returns-then-eq-3 : goal.returns-then-eq-3
+pub returns-then-same-3 : goal.returns-then-same-3
 unfolding commands codes
-returns-then-eq-3 c =
-    entry_pass _ _ _ _ c.as_slice.ensures _ c.if-eq.ensures
-    (entry_pass _ _ _ _ c.as_slice-else-eq.ensures _ c.if-eq-2.ensures
-    (entry_hit _ _ _ _ c.as_slice-else-eq-2.ensures c.if-eq-3.ensures))
+returns-then-same-3 c =
+    sym
+    (named_pass _ _ _ _ (sym c.if-same.ensures)
+    ∙ named_pass _ _ _ _ (sym c.if-same-2.ensures)
+    ∙ named_hit _ _ _ _ (sym c.if-same-3.ensures))
 
-pub returns-then-eq-4 : goal.returns-then-eq-4
+pub returns-then-same-4 : goal.returns-then-same-4
 unfolding commands codes
-returns-then-eq-4 c =
-    entry_pass _ _ _ _ c.as_slice.ensures _ c.if-eq.ensures
-    (entry_pass _ _ _ _ c.as_slice-else-eq.ensures _ c.if-eq-2.ensures
-    (entry_pass _ _ _ _ c.as_slice-else-eq-2.ensures _ c.if-eq-3.ensures
-    (entry_hit _ _ _ _ c.as_slice-else-eq-3.ensures c.if-eq-4.ensures)))
+returns-then-same-4 c =
+    sym
+    (named_pass _ _ _ _ (sym c.if-same.ensures)
+    ∙ named_pass _ _ _ _ (sym c.if-same-2.ensures)
+    ∙ named_pass _ _ _ _ (sym c.if-same-3.ensures)
+    ∙ named_hit _ _ _ _ (sym c.if-same-4.ensures))
 
-pub returns-then-eq-5 : goal.returns-then-eq-5
+pub returns-then-same-5 : goal.returns-then-same-5
 unfolding commands codes
-returns-then-eq-5 c =
-    entry_pass _ _ _ _ c.as_slice.ensures _ c.if-eq.ensures
-    (entry_pass _ _ _ _ c.as_slice-else-eq.ensures _ c.if-eq-2.ensures
-    (entry_pass _ _ _ _ c.as_slice-else-eq-2.ensures _ c.if-eq-3.ensures
-    (entry_pass _ _ _ _ c.as_slice-else-eq-3.ensures _ c.if-eq-4.ensures
-    (entry_hit _ _ _ _ c.as_slice-else-eq-4.ensures c.if-eq-5.ensures))))
+returns-then-same-5 c =
+    sym
+    (named_pass _ _ _ _ (sym c.if-same.ensures)
+    ∙ named_pass _ _ _ _ (sym c.if-same-2.ensures)
+    ∙ named_pass _ _ _ _ (sym c.if-same-3.ensures)
+    ∙ named_pass _ _ _ _ (sym c.if-same-4.ensures)
+    ∙ named_hit _ _ _ _ (sym c.if-same-5.ensures))
 
-pub returns-then-eq-6 : goal.returns-then-eq-6
+pub returns-then-same-6 : goal.returns-then-same-6
 unfolding commands codes
-returns-then-eq-6 c =
-    entry_pass _ _ _ _ c.as_slice.ensures _ c.if-eq.ensures
-    (entry_pass _ _ _ _ c.as_slice-else-eq.ensures _ c.if-eq-2.ensures
-    (entry_pass _ _ _ _ c.as_slice-else-eq-2.ensures _ c.if-eq-3.ensures
-    (entry_pass _ _ _ _ c.as_slice-else-eq-3.ensures _ c.if-eq-4.ensures
-    (entry_pass _ _ _ _ c.as_slice-else-eq-4.ensures _ c.if-eq-5.ensures
-    (entry_hit _ _ _ _ c.as_slice-else-eq-5.ensures c.if-eq-6.ensures)))))
+returns-then-same-6 c =
+    sym
+    (named_pass _ _ _ _ (sym c.if-same.ensures)
+    ∙ named_pass _ _ _ _ (sym c.if-same-2.ensures)
+    ∙ named_pass _ _ _ _ (sym c.if-same-3.ensures)
+    ∙ named_pass _ _ _ _ (sym c.if-same-4.ensures)
+    ∙ named_pass _ _ _ _ (sym c.if-same-5.ensures)
+    ∙ named_hit _ _ _ _ (sym c.if-same-6.ensures))
 
-pub returns-else-eq-6 : goal.returns-else-eq-6
+pub returns-else-same-6 : goal.returns-else-same-6
 unfolding commands codes
-returns-else-eq-6 c =
-    entry_pass _ _ _ _ c.as_slice.ensures _ c.if-eq.ensures
-    (entry_pass _ _ _ _ c.as_slice-else-eq.ensures _ c.if-eq-2.ensures
-    (entry_pass _ _ _ _ c.as_slice-else-eq-2.ensures _ c.if-eq-3.ensures
-    (entry_pass _ _ _ _ c.as_slice-else-eq-3.ensures _ c.if-eq-4.ensures
-    (entry_pass _ _ _ _ c.as_slice-else-eq-4.ensures _ c.if-eq-5.ensures
-    (entry_pass _ _ _ _ c.as_slice-else-eq-5.ensures _ c.if-eq-6.ensures
-    (sym (named_none _)))))))
+returns-else-same-6 c =
+    sym
+    (named_pass _ _ _ _ (sym c.if-same.ensures)
+    ∙ named_pass _ _ _ _ (sym c.if-same-2.ensures)
+    ∙ named_pass _ _ _ _ (sym c.if-same-3.ensures)
+    ∙ named_pass _ _ _ _ (sym c.if-same-4.ensures)
+    ∙ named_pass _ _ _ _ (sym c.if-same-5.ensures)
+    ∙ named_pass _ _ _ _ (sym c.if-same-6.ensures)
+    ∙ named_none _)
